@@ -40,7 +40,7 @@ module _ {N : Type 0} (reading : Reading N) (b : BoardValue N) (machine : Machin
   act-shut none opening =
       let w = the-way reading b machine ask o.goal first olds l in
       opening-shut machine b.plans ask o s o.goal olds act [] refl (λ rest opens. child-closed machine b.plans ask o.goal first w.x act rest w.is.way none
-      (subst (λ cs. IsOpen machine b.plans ask (going o.goal (record { act = act; places = rest } ∷ cs))) (sym w.is.same) opens)) opening
+      (subst (λ cs. IsOpen machine b.plans ask (going o.goal (record { act = act; places = rest } ∷ cs))) (sym w.is.same) (opens.end, opens.opens))) opening
 
   -- nor where it is late
   pub act-late : (before : State) (room : ℕ) → IsPlaced machine olds → IsBefore machine ask act first (record { state = before; room = room }) → kept_of ask + length olds < 64
@@ -53,7 +53,7 @@ module _ {N : Type 0} (reading : Reading N) (b : BoardValue N) (machine : Machin
       let placed' = subst (IsPlaced machine) (sym w.is.same) placed in
       let way = action-way machine b.plans ask o.goal first before w.x act room w.is.way placed' w.is.going r.step r.allowed r.is_room (omega arith) in
       opening-shut machine b.plans ask o s o.goal olds act [] refl (λ rest opens. child-late machine b.plans ask o.goal before (with_action act room w.x) (record { act = act; places = [] }) w.x.choices rest way w.is.going refl none'
-      (subst (λ cs. IsOpen machine b.plans ask (going o.goal (record { act = act; places = rest } ∷ cs))) (sym w.is.same) opens)) opening
+      (subst (λ cs. IsOpen machine b.plans ask (going o.goal (record { act = act; places = rest } ∷ cs))) (sym w.is.same) (opens.end, opens.opens))) opening
 
 -- after an action was tried on a marked board
 module _ {N : Type 0} (reading : Reading N) (machine : Machine) (ask : Ask) (act : ActId) (o : Opening) (s : StoreValue) (b : BoardValue N) where

@@ -10,10 +10,12 @@ use Rattle.tp_schedule.specs.declared.parts.Origin.TheVariants.{Feeder as FromFe
 use Rattle.tp_schedule.specs.declared.parts.Plan.{Plan}
 use Rattle.tp_routes.specs.Tables.{IsKnownOrigin}
 use Rattle.tp_routes.proofs.RoomFacts.{fresh_start_known}
+use Rattle.tp_search.specs.Limits.{HasNoLimit}
 use Rattle.tp_search.specs.Searching.{AreOpenGoals, IsSearching}
-use Rattle.tp_search.specs.Stores.{HasBounds, StoreValue, empty_store}
+use Rattle.tp_search.specs.Stores.{HasBounds, StoreValue}
 use Rattle.tp_search.specs.declared.goals.OpenGoal.{OpenGoal}
-use Rattle.tp_search.proofs.SearchBegins.{searching-begins}
+use Rattle.tp_search.specs.declared.store.Limit.{Limit}
+use Rattle.tp_search.proofs.SearchBegins.{empty_under, searching-begins}
 use Rattle.tp_search.proofs.StateFacts.{walk_within}
 
 -- a front has led to a location of the machine
@@ -29,8 +31,8 @@ floor-later machine plans now FromFeeder time = omega arith
 floor-later machine plans now (FromFront state end count) time = omega arith
 
 -- the search begins with the goals that are open
-pub begins-with : (machine : Machine) (plans : List Plan) (ask : Ask) (goals : List OpenGoal) (s : StoreValue) (room width : ℕ) (plans' : List Plan) → AreOpenGoals machine plans ask goals → s ≡ empty_store room ask.now width → width ≡ machine.window + 1
-    → HasTimeFrom plans' ask.now ask.origin → IsSearching machine plans ask goals s 0
-begins-with machine plans ask goals s room width plans' are is wide time =
-    searching-begins machine plans ask goals s room ask.now width are is
+pub begins-with : (machine : Machine) (plans : List Plan) (ask : Ask) (goals : List OpenGoal) (s : StoreValue) (room width : ℕ) (limit : Limit) (plans' : List Plan) → HasNoLimit limit → AreOpenGoals machine plans ask goals
+    → s ≡ empty_under room ask.now width limit → width ≡ machine.window + 1 → HasTimeFrom plans' ask.now ask.origin → IsSearching machine plans ask goals s 0
+begins-with machine plans ask goals s room width limit plans' none are is wide time =
+    searching-begins machine plans ask goals s room ask.now width limit none are is
     (subst (HasBounds machine ask) (sym is) (floor-later machine plans' ask.now ask.origin time, omega arith))

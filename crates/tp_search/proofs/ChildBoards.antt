@@ -8,7 +8,7 @@ use Rattle.tp_machine.specs.declared.parts.HoldRule.{HoldRule}
 use Rattle.tp_machine.specs.declared.parts.State.{State}
 use Rattle.tp_machine.specs.declared.machine.Machine.{Machine}
 use Rattle.tp_pool.specs.declared.choice.Choice.{Choice as Stored}
-use Rattle.tp_schedule.specs.Choices.{Choice, ChoiceList, IsBound, IsChild, IsComplete, IsOpen, going, start_floor}
+use Rattle.tp_schedule.specs.Choices.{Choice, ChoiceList, IsBound, IsChild, IsComplete, IsOpen, OpensTo, going, start_floor}
 use Rattle.tp_schedule.specs.Choices.IsChild.{one_more}
 use Rattle.tp_schedule.specs.Holding.{holds_of_act}
 use Rattle.tp_schedule.specs.Routes.{IsStart}
@@ -24,12 +24,13 @@ use Rattle.tp_placing.specs.Boards.{BoardValue, suffix_of}
 use Rattle.tp_placing.specs.Calls.{CanPlace, HasNoTimes}
 use Rattle.tp_placing.specs.Standing.{order_after}
 use Rattle.tp_placing.specs.Ticks.{HasLeastTick, IsLeastTick, TimesOf}
+use Rattle.tp_placing.specs.Walking.{EndsAfterUpTo}
 use Rattle.tp_search.specs.Boards.{IsLaid}
 use Rattle.tp_search.specs.Stored.{child_by}
 use Rattle.tp_ways.specs.Ways.{IsPlaced}
 use Rattle.tp_search.proofs.BoardSteps.{TheWay, the-way}
 use Rattle.tp_search.proofs.ChildFacts.{child_by-act}
-use Rattle.tp_ways.proofs.WayChildren.{child-late, child-places, place-beyond}
+use Rattle.tp_ways.proofs.WayChildren.{child-places, child-times, place-beyond}
 use Rattle.tp_ways.proofs.WayEnds.{complete-start, going-incomplete, start-complete}
 use Rattle.tp_search.proofs.WayBounds.{way-bound}
 use Rattle.tp_ways.proofs.WaySteps.{place-way}
@@ -49,14 +50,20 @@ bound-range machine plans ask list bound b =
     (omega arith, omega arith)
 
 module _ {N : Type 0} (reading : Reading N) (b : BoardValue N) (machine : Machine) (ask : Ask) (goal first : State) where
-  -- the least end on the board is the bound of the list that it carries
+  -- the least end on the board is that of the way that it carries
+  laid-least : (choices : List Choice) (tick : ℕ) → (l : IsLaid reading b machine ask goal first choices) → HasLeastTick machine b (own 0) tick
+      → IsLeastTick (TimesOf machine b.plans ask (Some (the-way reading b machine ask goal first choices l).x)) (own 0) tick
+  laid-least choices tick l least =
+      let w = the-way reading b machine ask goal first choices l in
+      let here : IsLeastTick (TimesOf machine b.plans ask (suffix_of b)) (own 0) tick = subst (λ o. IsSomeAnd o (λ k. IsLeastTick (TimesOf machine b.plans k (suffix_of b)) (own 0) tick)) l.asked least in
+      subst (λ o. IsLeastTick (TimesOf machine b.plans ask o) (own 0) tick) w.suffix here
+
+  -- and the bound of its list
   pub laid-bound : (choices : List Choice) (tick : ℕ) → IsLaid reading b machine ask goal first choices → IsPlaced machine choices → HasLeastTick machine b (own 0) tick → IsBound machine b.plans ask (going goal choices) tick
   laid-bound choices tick l placed least =
       let w = the-way reading b machine ask goal first choices l in
-      let here : IsLeastTick (TimesOf machine b.plans ask (suffix_of b)) (own 0) tick = subst (λ o. IsSomeAnd o (λ k. IsLeastTick (TimesOf machine b.plans k (suffix_of b)) (own 0) tick)) l.asked least in
-      let there = subst (λ o. IsLeastTick (TimesOf machine b.plans ask o) (own 0) tick) w.suffix here in
       subst (λ list. IsBound machine b.plans ask list tick) (going-of goal choices w.x w.is.same w.is.going)
-      (way-bound machine b.plans ask goal first w.x tick w.is.way (subst (IsPlaced machine) (sym w.is.same) placed) there)
+      (way-bound machine b.plans ask goal first w.x tick w.is.way (subst (IsPlaced machine) (sym w.is.same) placed) (laid-least choices tick l least))
 
   -- it is complete for a new copy that begins at a start state
   pub laid-complete : (choices : List Choice) → IsLaid reading b machine ask goal first choices → ((ask.origin ≡ FromFeeder) × IsStart machine ask first) ↔ IsComplete machine ask (going goal choices)
@@ -88,17 +95,44 @@ module _ {N : Type 0} (reading : Reading N) (b : BoardValue N) (machine : Machin
         let w = the-way reading b machine ask goal first (newest ∷ choices) l in
         subst (λ o. IsSomeAnd o (λ x. place ≤ length (order_in machine b.plans x rule.resource.0))) (sym w.suffix) (subst (λ o. place ≤ length (order_after machine b.plans o rule.resource.0)) w.suffix within)
 
-    -- a place that is late opens with no further places
-    pub place-shut : (place : ℕ) (rule : HoldRule) → slice_get (holds_of_act (action_at machine act.0)) (length places) ≡ Some rule → place ≤ length (order_after machine b.plans (suffix_of b) rule.resource.0)
-        → IsSomeAnd (suffix_of b) (λ x. HasNoTimes machine b (with_place place x)) → (rest : List ℕ) → IsOpen machine b.plans ask (going goal (record { act = act; places = (places ++ place ∷ []) ++ rest } ∷ choices)) → ⊥
-    place-shut place rule is_rule within late rest open' =
+    -- a list with further places ends no earlier than the board's
+    pub end-after : (tick : ℕ) → HasLeastTick machine b (own 0) tick → (rest : List ℕ) (end : ℕ) → OpensTo machine b.plans ask (going goal (record { act = act; places = places ++ rest } ∷ choices)) end → tick ≤ end
+    end-after tick least rest end opens =
+        let w = the-way reading b machine ask goal first (newest ∷ choices) l in
+        let here = laid-least (newest ∷ choices) tick l least in
+        let times = child-times machine b.plans ask goal first w.x newest choices rest w.is.way w.is.going w.is.same end opens in
+        omega (arith, here.least times.0 times.1, times.2)
+
+    -- the list with a place more, and others behind it, opens to times of the one with the place
+    place-times : (place : ℕ) (rule : HoldRule) → slice_get (holds_of_act (action_at machine act.0)) (length places) ≡ Some rule → place ≤ length (order_after machine b.plans (suffix_of b) rule.resource.0)
+        → (rest : List ℕ) (end : ℕ) → OpensTo machine b.plans ask (going goal (record { act = act; places = (places ++ place ∷ []) ++ rest } ∷ choices)) end
+        → (t : Ticks) × SuffixTimes machine b.plans ask (with_place place (the-way reading b machine ask goal first (newest ∷ choices) l).x) t × (t (own 0) ≡ end)
+    place-times place rule is_rule within rest end opens =
         let w = the-way reading b machine ask goal first (newest ∷ choices) l in
         let inside : place ≤ length (order_in machine b.plans w.x rule.resource.0) = subst (λ o. place ≤ length (order_after machine b.plans o rule.resource.0)) w.suffix within in
-        let none : HasNoTimes machine b (with_place place w.x) = subst (λ o. IsSomeAnd o (λ x. HasNoTimes machine b (with_place place x))) w.suffix late in
-        let none' = subst (λ o. IsSomeAnd o (λ k. (t : Ticks) → ¬ SuffixTimes machine b.plans k (with_place place w.x) t)) l.asked none in
         let way = place-way machine b.plans ask goal first w.x newest choices rule place w.is.way w.is.going w.is.same is_rule inside in
         let same : (with_place place w.x).choices ≡ record { act = act; places = places ++ place ∷ [] } ∷ choices = ap (place_first place) w.is.same in
-        child-late machine b.plans ask goal first (with_place place w.x) (record { act = act; places = places ++ place ∷ [] }) choices rest way w.is.going same none' open'
+        child-times machine b.plans ask goal first (with_place place w.x) (record { act = act; places = places ++ place ∷ [] }) choices rest way w.is.going same end opens
+
+    -- a place that is late opens with no further places
+    pub place-shut : (place : ℕ) (rule : HoldRule) → slice_get (holds_of_act (action_at machine act.0)) (length places) ≡ Some rule → place ≤ length (order_after machine b.plans (suffix_of b) rule.resource.0)
+        → IsSomeAnd (suffix_of b) (λ x. HasNoTimes machine b (with_place place x)) → (rest : List ℕ) (end : ℕ) → OpensTo machine b.plans ask (going goal (record { act = act; places = (places ++ place ∷ []) ++ rest } ∷ choices)) end → ⊥
+    place-shut place rule is_rule within late rest end opens =
+        let w = the-way reading b machine ask goal first (newest ∷ choices) l in
+        let none : HasNoTimes machine b (with_place place w.x) = subst (λ o. IsSomeAnd o (λ x. HasNoTimes machine b (with_place place x))) w.suffix late in
+        let none' = subst (λ o. IsSomeAnd o (λ k. (t : Ticks) → ¬ SuffixTimes machine b.plans k (with_place place w.x) t)) l.asked none in
+        let times = place-times place rule is_rule within rest end opens in
+        none' times.0 times.1
+
+    -- where each place up to one ends after a limit, so does each list with further places
+    pub crowded-after : (place last limit : ℕ) (rule : HoldRule) → slice_get (holds_of_act (action_at machine act.0)) (length places) ≡ Some rule → place ≤ last → last ≤ length (order_after machine b.plans (suffix_of b) rule.resource.0)
+        → IsSomeAnd (suffix_of b) (EndsAfterUpTo machine b last limit) → (rest : List ℕ) (end : ℕ) → OpensTo machine b.plans ask (going goal (record { act = act; places = (places ++ place ∷ []) ++ rest } ∷ choices)) end → limit < end
+    crowded-after place last limit rule is_rule up within crowded rest end opens =
+        let w = the-way reading b machine ask goal first (newest ∷ choices) l in
+        let all : EndsAfterUpTo machine b last limit w.x = subst (λ o. IsSomeAnd o (EndsAfterUpTo machine b last limit)) w.suffix crowded in
+        let all' = subst (λ o. IsSomeAnd o (λ k. (earlier : ℕ) → earlier ≤ last → (t : Ticks) → SuffixTimes machine b.plans k (with_place earlier w.x) t → limit < t (own 0))) l.asked all in
+        let times = place-times place rule is_rule (omega (arith, up, within)) rest end opens in
+        omega (arith, all' place up times.0 times.1, times.2)
 
     -- and one beyond the order is no place
     pub beyond-shut : (place : ℕ) (rule : HoldRule) (rest : List ℕ) → slice_get (holds_of_act (action_at machine act.0)) (length places) ≡ Some rule → length (order_after machine b.plans (suffix_of b) rule.resource.0) < place

@@ -35,6 +35,8 @@ pub mod StepFacts
 pub mod StepBoards
 pub mod HoldFacts
 pub mod LeadFacts
+pub mod LimitFacts
+pub mod OutcomeFacts
 pub mod RootFacts
 pub mod HoldChildren
 pub mod AskedFacts

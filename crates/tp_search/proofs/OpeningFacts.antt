@@ -12,6 +12,8 @@ use Rattle.tp_schedule.specs.Choices.{Choice, ChoiceList, IsBound, IsChild, IsCo
 use Rattle.tp_schedule.specs.Holding.{holds_of_act}
 use Rattle.tp_schedule.specs.declared.parts.Ask.{Ask}
 use Rattle.tp_schedule.specs.declared.parts.Plan.{Plan}
+use Rattle.tp_search.specs.Limits.{IsMetLimit, IsWithin, OpensWithin}
+use Rattle.tp_search.specs.declared.store.Limit.{Limit}
 use Rattle.tp_search.specs.Opening.{IsAhead, IsAtProgress, IsFresh, IsLooked, IsOpenChild, IsOpening, Progress, parent_of}
 use Rattle.tp_search.specs.Opening.Progress.{nothing, through, up_to}
 use Rattle.tp_search.specs.Stored.{child_by, choices_by, list_by}
@@ -31,22 +33,22 @@ opening-step machine plans ask o s before after c b complete child is fresh open
   other : IsComplete machine ask child → b ≡ o.bound → ⊥
   other is-complete = answers (exactly.1 is-complete)
 
-  grown : (new : List Entry) (best : Option ℕ) → IsOpening machine plans ask (parent_of machine s.entries o.goal o.parent) o.bound (choices_before s.entries o.parent) (take o.stored s.entries) after (s.entries ++ new) s.capacity s.full best
-      → IsOpening machine plans ask (parent_of machine (s.entries ++ new) o.goal o.parent) o.bound (choices_before (s.entries ++ new) o.parent) (take o.stored (s.entries ++ new)) after (s.entries ++ new) s.capacity s.full best
+  grown : (new : List Entry) (best : Option ℕ) → IsOpening machine plans ask (parent_of machine s.entries o.goal o.parent) o.bound s.limit (choices_before s.entries o.parent) (take o.stored s.entries) after (s.entries ++ new) s.capacity s.full best
+      → IsOpening machine plans ask (parent_of machine (s.entries ++ new) o.goal o.parent) o.bound s.limit (choices_before (s.entries ++ new) o.parent) (take o.stored (s.entries ++ new)) after (s.entries ++ new) s.capacity s.full best
   grown new best known =
       let same-base : take o.stored (s.entries ++ new) ≡ take o.stored s.entries = take-append-le o.stored s.entries new fresh.stored in
       let same-choices : choices_before (s.entries ++ new) o.parent ≡ choices_before s.entries o.parent = choices-stay s.entries new o.stored o.parent fresh.parent fresh.stored in
-      subst (λ base. IsOpening machine plans ask (parent_of machine (s.entries ++ new) o.goal o.parent) o.bound (choices_before (s.entries ++ new) o.parent) base after (s.entries ++ new) s.capacity s.full best) (sym same-base)
-      (subst (λ old. IsOpening machine plans ask (going o.goal (choices_by machine old)) o.bound old (take o.stored s.entries) after (s.entries ++ new) s.capacity s.full best) (sym same-choices) known)
+      subst (λ base. IsOpening machine plans ask (parent_of machine (s.entries ++ new) o.goal o.parent) o.bound s.limit (choices_before (s.entries ++ new) o.parent) base after (s.entries ++ new) s.capacity s.full best) (sym same-base)
+      (subst (λ old. IsOpening machine plans ask (going o.goal (choices_by machine old)) o.bound s.limit old (take o.stored s.entries) after (s.entries ++ new) s.capacity s.full best) (sym same-choices) known)
 
   keep : (full : Bool) → (length s.entries == s.capacity) ≡ full → IsAtProgress machine plans ask o (if full then record s { full = true } else with_list o.parent c b complete s) after
   keep true all =
-      opening-full machine plans ask (parent_of machine s.entries o.goal o.parent) o.bound (choices_before s.entries o.parent) (take o.stored s.entries) before after s.entries s.capacity s.full s.best child b opening step is-child is-bound
+      opening-full machine plans ask (parent_of machine s.entries o.goal o.parent) o.bound s.limit (choices_before s.entries o.parent) (take o.stored s.entries) before after s.entries s.capacity s.full s.best child b opening step is-child is-bound
       other fresh.none_before (eqb-true (length s.entries) s.capacity all)
   keep false space =
       let as-child : list_by machine (c ∷ choices_before s.entries o.parent) ≡ child = ap (λ g. child_by machine g (choices_by machine (choices_before s.entries o.parent)) c) goal ∙ is in
       grown (entry_of s.entries o.parent c b ∷ []) (better s.entries complete b (length s.entries) s.best)
-      (opening-stored machine plans ask (parent_of machine s.entries o.goal o.parent) o.bound (choices_before s.entries o.parent) (take o.stored s.entries) before after s.entries s.capacity s.full s.best child b opening step is-child is-bound
+      (opening-stored machine plans ask (parent_of machine s.entries o.goal o.parent) o.bound s.limit (choices_before s.entries o.parent) (take o.stored s.entries) before after s.entries s.capacity s.full s.best child b opening step is-child is-bound
       other (eqb-false (length s.entries) s.capacity space) c as-child goal complete exactly)
 
 -- a child with these places, as many as its action has holds, is the only one through them
@@ -113,10 +115,12 @@ opening-stop machine plans ask o s c b complete fresh opening has goal is-child 
     (step-stop machine plans ask parent) (subst (IsChild machine ask parent) is is-child) (subst (λ l. IsBound machine plans ask l b) is is-bound)
     (subst (λ l. IsTrue complete ↔ IsComplete machine ask l) is exactly) answers
 
--- the progress goes on over children that are not open
-pub opening-on : (machine : Machine) (plans : List Plan) (ask : Ask) (o : Opening) (s : StoreValue) (p q : Progress) → IsAtProgress machine plans ask o s p → ((list : ChoiceList) → IsLooked p list → IsLooked q list)
-    → ((list : ChoiceList) → IsChild machine ask (parent_of machine s.entries o.goal o.parent) list → IsLooked q list → IsLooked p list ⊎ (IsOpen machine plans ask list → ⊥)) → IsAtProgress machine plans ask o s q
-opening-on machine plans ask o s p q opening more only = record {
+-- the progress goes on over children that do not open to an end within the limit
+pub opening-over : (machine : Machine) (plans : List Plan) (ask : Ask) (o : Opening) (s : StoreValue) (p q : Progress) → IsAtProgress machine plans ask o s p → ((list : ChoiceList) → IsLooked p list → IsLooked q list)
+    → ((list : ChoiceList) → IsChild machine ask (parent_of machine s.entries o.goal o.parent) list → IsLooked q list → IsLooked p list ⊎ (OpensWithin machine plans ask s.limit list → ⊥)) → IsAtProgress machine plans ask o s q
+opening-over machine plans ask o s p q opening more only = record {
+  in_limit = opening.in_limit;
+  met = opening.met;
   new = opening.new;
   grown = opening.grown;
   children = All-weaker _ _ on opening.new opening.children;
@@ -127,7 +131,7 @@ opening-on machine plans ask o s p q opening more only = record {
   ];
   finished = λ list looked answers. elim (only list answers.is_child looked) [
     | inl earlier ↦ opening.finished list earlier answers
-    | inr closed ↦ closed (o.bound, answers.is_bound.opens)
+    | inr closed ↦ closed (record { end = o.bound; opens = answers.is_bound.opens; within = opening.in_limit })
   ];
   spent = opening.spent;
   has_best = opening.has_best;
@@ -135,3 +139,28 @@ opening-on machine plans ask o s p q opening more only = record {
   on : (e : Entry) → IsOpenChild machine plans ask (parent_of machine s.entries o.goal o.parent) o.bound (choices_before s.entries o.parent) p e
       → IsOpenChild machine plans ask (parent_of machine s.entries o.goal o.parent) o.bound (choices_before s.entries o.parent) q e
   on e is = record { newest = is.newest; choices = is.choices; goal = is.goal; is_child = is.is_child; looked = more (list_by machine e.choices) is.looked; is_bound = is.is_bound }
+
+-- the progress goes on over children that are not open
+pub opening-on : (machine : Machine) (plans : List Plan) (ask : Ask) (o : Opening) (s : StoreValue) (p q : Progress) → IsAtProgress machine plans ask o s p → ((list : ChoiceList) → IsLooked p list → IsLooked q list)
+    → ((list : ChoiceList) → IsChild machine ask (parent_of machine s.entries o.goal o.parent) list → IsLooked q list → IsLooked p list ⊎ (IsOpen machine plans ask list → ⊥)) → IsAtProgress machine plans ask o s q
+opening-on machine plans ask o s p q opening more only =
+    opening-over machine plans ask o s p q opening more (λ list child looked. elim (only list child looked) [
+      | inl earlier ↦ inl earlier
+      | inr closed ↦ inr (λ opens. closed (opens.end, opens.opens))
+    ])
+
+-- a limit that was found leaves what is known
+pub opening-limited : (machine : Machine) (plans : List Plan) (ask : Ask) (o : Opening) (s : StoreValue) (p : Progress) (limit : Limit) → IsAtProgress machine plans ask o s p → ((end : ℕ) → IsWithin limit end → IsWithin s.limit end)
+    → IsWithin limit o.bound → IsMetLimit machine plans ask limit → IsAtProgress machine plans ask o (record s { limit = limit }) p
+opening-limited machine plans ask o s p limit opening less in-limit met = record {
+  in_limit = in-limit;
+  met = met;
+  new = opening.new;
+  grown = opening.grown;
+  children = opening.children;
+  apart = opening.apart;
+  reached = λ list child looked opens. opening.reached list child looked (record { end = opens.end; opens = opens.opens; within = less opens.end opens.within });
+  finished = opening.finished;
+  spent = opening.spent;
+  has_best = opening.has_best;
+}

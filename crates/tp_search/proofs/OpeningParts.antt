@@ -10,6 +10,8 @@ use Rattle.tp_schedule.specs.Choices.{ChoiceList, IsBound, IsChild, IsComplete, 
 use Rattle.tp_schedule.specs.declared.parts.Ask.{Ask}
 use Rattle.tp_schedule.specs.declared.parts.Plan.{Plan}
 use Rattle.tp_schedule.proofs.Membership.{Contains-map_from}
+use Rattle.tp_search.specs.Limits.{OpensWithin}
+use Rattle.tp_search.specs.declared.store.Limit.{Limit}
 use Rattle.tp_search.specs.Opening.{Answers, IsLooked, IsOpenChild, IsOpening, Progress}
 use Rattle.tp_search.specs.Stored.{list_by, lists_by}
 use Rattle.tp_search.specs.Stores.{better}
@@ -23,8 +25,8 @@ module _ (machine : Machine) (plans : List Plan) (ask : Ask) (parent : ChoiceLis
     pub there : IsLooked after child
     pub only : (l : ChoiceList) → IsChild machine ask parent l → IsLooked after l → IsOpen machine plans ask l → IsLooked before l ⊎ (l ≡ child)
 
-module _ (machine : Machine) (plans : List Plan) (ask : Ask) (parent : ChoiceList) (bound : ℕ) (old : List Stored) (base : List Entry) (before after : Progress) (entries : List Entry) (room : ℕ) (full : Bool) (best : Option ℕ) (child : ChoiceList) (b : ℕ)
-    (opening : IsOpening machine plans ask parent bound old base before entries room full best) (step : IsStep machine plans ask parent before after child) (is-child : IsChild machine ask parent child) (is-bound : IsBound machine plans ask child b) where
+module _ (machine : Machine) (plans : List Plan) (ask : Ask) (parent : ChoiceList) (bound : ℕ) (limit : Limit) (old : List Stored) (base : List Entry) (before after : Progress) (entries : List Entry) (room : ℕ) (full : Bool) (best : Option ℕ) (child : ChoiceList) (b : ℕ)
+    (opening : IsOpening machine plans ask parent bound limit old base before entries room full best) (step : IsStep machine plans ask parent before after child) (is-child : IsChild machine ask parent child) (is-bound : IsBound machine plans ask child b) where
   -- the open children that were looked at go on with the progress
   children-on : All (IsOpenChild machine plans ask parent bound old after) opening.new
   children-on = All-weaker _ _ on opening.new opening.children where
@@ -47,8 +49,10 @@ module _ (machine : Machine) (plans : List Plan) (ask : Ask) (parent : ChoiceLis
 
   -- where the store is full, the child is missing
   pub opening-full : (IsComplete machine ask child → b ≡ bound → ⊥) → ((e : Entry) → Contains base e → ¬ IsChild machine ask parent (list_by machine e.choices)) → length entries ≡ room
-      → IsOpening machine plans ask parent bound old base after entries room true best
+      → IsOpening machine plans ask parent bound limit old base after entries room true best
   opening-full other none all = record {
+    in_limit = opening.in_limit;
+    met = opening.met;
     new = opening.new;
     grown = opening.grown;
     children = children-on;
@@ -68,8 +72,10 @@ module _ (machine : Machine) (plans : List Plan) (ask : Ask) (parent : ChoiceLis
 
   -- and otherwise it is stored
   pub opening-stored : (IsComplete machine ask child → b ≡ bound → ⊥) → (length entries ≡ room → ⊥) → (c : Stored) → list_by machine (c ∷ old) ≡ child → c.goal ≡ parent.goal → (complete : Bool) → (IsTrue complete ↔ IsComplete machine ask child)
-      → IsOpening machine plans ask parent bound old base after (entries ++ record { choices = c ∷ old; bound = b } ∷ []) room full (better entries complete b (length entries) best)
+      → IsOpening machine plans ask parent bound limit old base after (entries ++ record { choices = c ∷ old; bound = b } ∷ []) room full (better entries complete b (length entries) best)
   opening-stored other space c is goal complete exactly = record {
+    in_limit = opening.in_limit;
+    met = opening.met;
     new = opening.new ++ e ∷ [];
     grown = ap (λ es. es ++ e ∷ []) opening.grown ∙ append_assoc base opening.new (e ∷ []);
     children = All-push (IsOpenChild machine plans ask parent bound old after) opening.new e children-on here;
@@ -95,8 +101,8 @@ module _ (machine : Machine) (plans : List Plan) (ask : Ask) (parent : ChoiceLis
     lists : lists_by machine (opening.new ++ e ∷ []) ≡ lists_by machine opening.new ++ list_by machine (c ∷ old) ∷ []
     lists = map-append (λ (x : Entry). list_by machine x.choices) opening.new (e ∷ [])
 
-    reached : (l : ChoiceList) → IsChild machine ask parent l → IsLooked after l → IsOpen machine plans ask l → IsTrue full ⊎ Contains (lists_by machine (opening.new ++ e ∷ [])) l
-    reached l l-child looked opens = elim (step.only l l-child looked opens) [
+    reached : (l : ChoiceList) → IsChild machine ask parent l → IsLooked after l → OpensWithin machine plans ask limit l → IsTrue full ⊎ Contains (lists_by machine (opening.new ++ e ∷ [])) l
+    reached l l-child looked opens = elim (step.only l l-child looked (opens.end, opens.opens)) [
       | inl earlier ↦ elim (opening.reached l l-child earlier opens) [
         | inl is-full ↦ inl is-full
         | inr stored ↦ inr (subst (λ ls. Contains ls l) (sym lists) (Contains-append_left (lists_by machine opening.new) (list_by machine (c ∷ old) ∷ []) l stored))

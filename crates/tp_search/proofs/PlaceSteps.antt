@@ -1,5 +1,5 @@
 -- The steps of placing the holds of a choice: the last hold is placed, and a place is tried and taken back.
-use Rattle.std.proofs.Common.{◌≡◌, ◌↔◌, ℕ, suc, ◌+◌, ◌-◌, ◌<◌, ◌≤◌, Bool, IsTrue, IsSomeAnd, List, [], ◌∷◌, ◌++◌, length, take, Option, None, Some, refl, sym, ap, subst, ◌∙◌, arith, length-take-le}
+use Rattle.std.proofs.Common.{◌≡◌, ◌↔◌, ℕ, zero, suc, ◌+◌, ◌-◌, ◌<◌, ◌≤◌, Bool, IsTrue, IsSome, IsSomeAnd, List, [], ◌∷◌, ◌++◌, length, take, Option, None, Some, refl, sym, ap, subst, ◌∙◌, arith, length-take-le}
 use Rattle.std.specs.Prelude.{slice_get, slice_set}
 use Rattle.std.proofs.lemmas.List.{length-append, take_more_set}
 use Rattle.tp_base.specs.Readings.{Reading}
@@ -24,22 +24,25 @@ use Rattle.tp_placing.specs.Boards.{BoardValue, content_of, past_of, suffix_of}
 use Rattle.tp_placing.specs.Calls.{CanPlace, HasNoTimes, IsSameLoad}
 use Rattle.tp_placing.specs.Laws.{MarkKeeps, UndoKeeps}
 use Rattle.tp_placing.specs.Standing.{Stands, order_after}
-use Rattle.tp_placing.specs.Walking.{HasNoTimesUpTo, StandsBack}
+use Rattle.tp_placing.specs.Walking.{EndsAfterUpTo, HasNoTimesUpTo, StandsBack}
 use Rattle.tp_placing.specs.Ticks.{HasLeastTick}
+use Rattle.tp_placing.proofs.StandFacts.{some-and}
 use Rattle.tp_search.specs.Boards.{HasMarks, IsBack, IsLaid}
 use Rattle.tp_search.specs.Children.{HasFound}
+use Rattle.tp_search.specs.Limits.{IsWithin}
 use Rattle.tp_search.specs.Opening.{IsAtProgress, IsFresh, IsSameOpening, parent_of}
 use Rattle.tp_search.specs.Opening.Progress.{through, up_to}
 use Rattle.tp_search.specs.Stored.{child_by, choices_by}
 use Rattle.tp_search.specs.Stores.{HasBounds, IsInRange, StoreValue, after_keep}
 use Rattle.tp_search.specs.declared.opening.Opening.{Opening}
+use Rattle.tp_search.specs.declared.store.Limit.TheVariants.{By}
 use Rattle.tp_search.proofs.BoardSteps.{IsMarked, IsSince, IsSinceMark, IsUndone, back-trans, laid-back, laid-marked, laid-place, load-of, mark-back, since-back, since-mark, suffix-back}
 use Rattle.tp_search.proofs.ChildBoards.{bound-range, can-place, is-child-more, laid-bound, laid-complete, place-within}
 use Rattle.tp_search.proofs.ChildFacts.{child_by-act}
 use Rattle.tp_search.proofs.FurtherFacts.{found-further, further-back, further-marked, further-step, further-trans}
 use Rattle.tp_search.proofs.OpeningFacts.{opening-child}
 use Rattle.tp_search.proofs.OpeningSame.{before-same, same-itself, same-trans}
-use Rattle.tp_search.proofs.PlaceFacts.{opening-next, place-late, places-begin, places-end, places-shut}
+use Rattle.tp_search.proofs.PlaceFacts.{opening-next, place-late, places-begin, places-beyond, places-crowded, places-end, places-shut}
 
 -- a hold's resource is one of the machine's
 pub resource-known : (machine : Machine) (act : ℕ) (a : Action) (hold : ℕ) (rule : HoldRule) → action_at machine act ≡ Some a → slice_get a.holds hold ≡ Some rule → rule.resource.0 < length machine.resources
@@ -145,14 +148,14 @@ module _ {N A : Type 0} (reading : Reading N) (untouched : N → A) (machine : M
     plans-now : b2.plans ≡ b1.plans
     plans-now = (load-of reading untouched b1 b2 t.marked.untouched_same).plans
 
-    order-now : order_after machine b2.plans (suffix_of b2) rule.resource.0 ≡ order_after machine b.plans (suffix_of b) rule.resource.0
-    order-now =
-        let plans : b2.plans ≡ b.plans = plans-now ∙ t.back.loaded.plans in
-        let suffix : suffix_of b2 ≡ suffix_of b = suffix-back reading b1 b2 t.marked.content_same ∙ suffix-back reading b b1 t.back.same_content in
-        λ i. order_after machine (plans i) (suffix i) rule.resource.0
+    -- the place is in the order of each board that carries the same
+    within-as : (b' : BoardValue N) → b'.plans ≡ b.plans → suffix_of b' ≡ suffix_of b → place ≤ length (order_after machine b'.plans (suffix_of b') rule.resource.0)
+    within-as b' plans suffix =
+        let order : order_after machine b'.plans (suffix_of b') rule.resource.0 ≡ order_after machine b.plans (suffix_of b) rule.resource.0 = (λ i. order_after machine (plans i) (suffix i) rule.resource.0) in
+        omega (arith, ap length order, t.within)
 
     within-now : place ≤ length (order_after machine b2.plans (suffix_of b2) rule.resource.0)
-    within-now = omega (arith, ap length order-now, t.within)
+    within-now = within-as b2 (plans-now ∙ t.back.loaded.plans) (suffix-back reading b1 b2 t.marked.content_same ∙ suffix-back reading b b1 t.back.same_content)
 
     progress-now : IsAtProgress machine b2.plans ask o1 s1 (up_to act.0 (places ++ place ∷ []))
     progress-now = subst (λ ps. IsAtProgress machine ps ask o1 s1 (up_to act.0 (places ++ place ∷ []))) (sym plans-now) t.progress
@@ -168,6 +171,12 @@ module _ {N A : Type 0} (reading : Reading N) (untouched : N → A) (machine : M
         laid-same reading machine ask first o s b3 o1 s1 (λ cs. record { act = act; places = places ++ place ∷ [] } ∷ cs) t.same t.fresh
         (laid-place reading b2 b3 machine ask o.goal first olds act places place rule marked-laid put stands load t.is_rule
         (place-within reading b2 machine ask o.goal first olds act places marked-laid place rule within-now))
+
+    -- a goal is open on it, also once what was behind it is taken back
+    pub placed-open : (b3 b4 : BoardValue N) → IsSomeAnd (suffix_of b2) (λ x. suffix_of b3 ≡ Some (with_place place x)) → IsBack reading b3 b4 machine → IsSome (suffix_of b4)
+    placed-open b3 b4 put back =
+        let x = some-and (suffix_of b2) (λ x. suffix_of b3 ≡ Some (with_place place x)) put in
+        subst IsSome (sym (suffix-back reading b3 b4 back.same_content ∙ x.2)) refl
 
     pub placed-progress : (b3 : BoardValue N) → IsSameLoad b2 b3 → IsAtProgress machine b3.plans ask o1 s1 (up_to act.0 (places ++ place ∷ []))
     placed-progress b3 load = subst (λ ps. IsAtProgress machine ps ask o1 s1 (up_to act.0 (places ++ place ∷ []))) (sym load.plans) progress-now
@@ -242,6 +251,28 @@ module _ {N A : Type 0} (reading : Reading N) (untouched : N → A) (machine : M
           places-end reading b machine ask o.goal first (choices_by machine (choices_before s.entries o.parent)) act places t.laid rule t.is_rule o2 s2
           (parent-same machine ask o o2 s s2 same-now t.fresh) few (subst (λ n. IsAtProgress machine b.plans ask o2 s2 (through act.0 (places ++ n ∷ []))) is at-place)
 
+      -- once it is taken back, the next hold may be placed there again
+      pub may-again : IsBack reading b b4 machine → IsSomeAnd (suffix_of b4) (λ x. CanPlace machine b4.plans x (length places) place)
+      may-again back =
+          let olds = choices_by machine (choices_before s.entries o.parent) in
+          can-place reading b4 machine ask o.goal first olds act places (laid-back reading b b4 machine ask o.goal first (record { act = act; places = places } ∷ olds) back t.laid) (length places) place rule refl t.is_rule
+          (within-as b4 back.loaded.plans (suffix-back reading b b4 back.same_content))
+
+      -- none is left where the place and all before it end beyond the limit
+      pub crowded-now : (limit : ℕ) → IsBack reading b b4 machine → s2.limit ≡ By limit → IsSomeAnd (suffix_of b4) (EndsAfterUpTo machine b4 place limit) → length places < length (holds_of_act (action_at machine act.0))
+          → IsAtProgress machine b.plans ask o2 s2 (through act.0 places)
+      crowded-now limit back is crowded few = go place refl where
+        go : (n : ℕ) → place ≡ n → IsAtProgress machine b.plans ask o2 s2 (through act.0 places)
+        go zero at = end-now at few
+        go (suc before) at =
+            let olds = choices_by machine (choices_before s.entries o.parent) in
+            let laid = laid-back reading b b4 machine ask o.goal first (record { act = act; places = places } ∷ olds) back t.laid in
+            let parent = parent-same machine ask o o2 s s2 same-now t.fresh in
+            subst (λ ps. IsAtProgress machine ps ask o2 s2 (through act.0 places)) back.loaded.plans
+            (places-end reading b4 machine ask o.goal first olds act places laid rule t.is_rule o2 s2 parent few
+            (places-crowded reading b4 machine ask o.goal first olds act places laid rule t.is_rule o2 s2 parent before place limit (omega (arith, at))
+            (within-as b4 back.loaded.plans (suffix-back reading b b4 back.same_content)) is crowded (next-now before at back)))
+
 -- the last place is the first that is tried
 pub begin-now : {N : Type 0} (reading : Reading N) (machine : Machine) (ask : Ask) (first : State) (act : ActId) (o : Opening) (s : StoreValue) (b : BoardValue N) (places : List ℕ) (rule : HoldRule)
     → IsLaid reading b machine ask o.goal first (record { act = act; places = places } ∷ choices_by machine (choices_before s.entries o.parent)) → IsFresh machine ask o s
@@ -252,3 +283,10 @@ begin-now reading machine ask first act o s b places rule laid fresh is_rule las
     opening-next machine b.plans ask o s act.0 places last
     (places-begin reading b machine ask o.goal first (choices_by machine (choices_before s.entries o.parent)) act places laid rule is_rule o s
     (parent-same machine ask o o s s (same-itself o s) fresh) (suc last) (omega (arith, c)) progress)
+
+-- where the least end is beyond the limit, no place is tried
+pub beyond-now : {N : Type 0} (reading : Reading N) (machine : Machine) (ask : Ask) (first : State) (act : ActId) (o : Opening) (s : StoreValue) (b : BoardValue N) (places : List ℕ) (tick : ℕ)
+    → IsLaid reading b machine ask o.goal first (record { act = act; places = places } ∷ choices_by machine (choices_before s.entries o.parent)) → IsFresh machine ask o s → HasLeastTick machine b (own 0) tick → ¬ IsWithin s.limit tick
+    → IsAtProgress machine b.plans ask o s (up_to act.0 places) → IsAtProgress machine b.plans ask o s (through act.0 places)
+beyond-now reading machine ask first act o s b places tick laid fresh least beyond =
+    places-beyond reading b machine ask o.goal first (choices_by machine (choices_before s.entries o.parent)) act places laid o s (parent-same machine ask o o s s (same-itself o s) fresh) tick least beyond

@@ -6,20 +6,28 @@ use Rattle.tp_pool.specs.Entries.{Entry}
 use Rattle.tp_schedule.specs.declared.parts.Ask.{Ask}
 use Rattle.tp_schedule.specs.declared.parts.Plan.{Plan}
 use Rattle.tp_schedule.proofs.Pairs.{AllPairs-nil}
+use Rattle.tp_search.specs.Limits.{HasNoLimit}
 use Rattle.tp_search.specs.Searching.{AreOpenGoals, IsOpenEntry, IsSearching, list_of_goal}
 use Rattle.tp_search.specs.Stored.{list_by}
 use Rattle.tp_search.specs.Stores.{HasBounds, StoreValue, empty_store}
 use Rattle.tp_search.specs.declared.goals.OpenGoal.{OpenGoal}
+use Rattle.tp_search.specs.declared.store.Limit.{Limit}
+use Rattle.tp_search.proofs.LimitFacts.{met-none}
 
-searching-empty : (machine : Machine) (plans : List Plan) (ask : Ask) (goals : List OpenGoal) (room base width : ℕ) → AreOpenGoals machine plans ask goals → HasBounds machine ask (empty_store room base width)
-    → IsSearching machine plans ask goals (empty_store room base width) 0
-searching-empty machine plans ask goals room base width are range = record {
+-- the store without lists, under a limit
+abbrev pub empty_under : ℕ → ℕ → ℕ → Limit → StoreValue
+empty_under room base width limit = record (empty_store room base width) { limit = limit }
+
+searching-empty : (machine : Machine) (plans : List Plan) (ask : Ask) (goals : List OpenGoal) (room base width : ℕ) (limit : Limit) → HasNoLimit limit → AreOpenGoals machine plans ask goals → HasBounds machine ask (empty_under room base width limit)
+    → IsSearching machine plans ask goals (empty_under room base width limit) 0
+searching-empty machine plans ask goals room base width limit none are range = record {
   opened = [];
   searched = record {
-    starts = λ list none opens. inl (Contains-append_left (map list_of_goal goals) [] list (are.every list none opens));
+    starts = λ list empty opens. inl (Contains-append_left (map list_of_goal goals) [] list (are.every list empty opens));
     spread = λ list child there. absurd (omega (arith, there.1));
     unfinished = λ list there. absurd (omega (arith, there.1));
   };
+  met = met-none machine plans ask limit none;
   goals_bound = are.bounds;
   goals_apart = are.apart;
   goals_later = λ k d within. omega arith;
@@ -37,7 +45,7 @@ searching-empty machine plans ask goals room base width are range = record {
 }
 
 -- with the open goals and an empty store a search begins
-pub searching-begins : (machine : Machine) (plans : List Plan) (ask : Ask) (goals : List OpenGoal) (s : StoreValue) (room base width : ℕ)
-    → AreOpenGoals machine plans ask goals → s ≡ empty_store room base width → HasBounds machine ask s → IsSearching machine plans ask goals s 0
-searching-begins machine plans ask goals s room base width are empty range =
-    subst (λ v. IsSearching machine plans ask goals v 0) (sym empty) (searching-empty machine plans ask goals room base width are (subst (HasBounds machine ask) empty range))
+pub searching-begins : (machine : Machine) (plans : List Plan) (ask : Ask) (goals : List OpenGoal) (s : StoreValue) (room base width : ℕ) (limit : Limit)
+    → HasNoLimit limit → AreOpenGoals machine plans ask goals → s ≡ empty_under room base width limit → HasBounds machine ask s → IsSearching machine plans ask goals s 0
+searching-begins machine plans ask goals s room base width limit none are empty range =
+    subst (λ v. IsSearching machine plans ask goals v 0) (sym empty) (searching-empty machine plans ask goals room base width limit none are (subst (HasBounds machine ask) empty range))

@@ -3,7 +3,7 @@
 use Rattle.std.proofs.Common.{◌≡◌, inl, inr, ◌<◌, ◌≤◌, ℕ, List, [], ◌++◌, length, map, Contains, Option, Some, None, IfSome, ap, subst, ◌∙◌, le_trans, arith}
 use Rattle.std.proofs.lemmas.List.{length-map}
 use Rattle.std.proofs.lemmas.List.Elements.{All-contains, Contains-get_or}
-use Rattle.tp_choices.specs.Frontiers.{FrontierBounds, FrontierEnds, IsFrontier, NoneOpensBelow}
+use Rattle.tp_choices.specs.Frontiers.{FrontierEnds, NoneOpensBelow}
 use Rattle.tp_choices.specs.Searches.{EndedHasFew, IsSearched, SearchFronts}
 use Rattle.tp_machine.specs.Machines.{IsMachine}
 use Rattle.tp_machine.specs.declared.machine.Machine.{Machine}
@@ -16,6 +16,7 @@ use Rattle.tp_schedule.specs.Spending.{FewListsOpen}
 use Rattle.tp_schedule.specs.declared.parts.Ask.{Ask}
 use Rattle.tp_schedule.specs.declared.parts.Plan.{Plan}
 use Rattle.tp_search.specs.Following.{IsStoredList}
+use Rattle.tp_search.specs.Limits.{IsSearchedTo, IsWithin}
 use Rattle.tp_search.specs.Searching.{IsBestLater, IsNext, IsSearching, list_at, list_of_goal, next_bound, next_list, waiting_in}
 use Rattle.tp_search.specs.Stored.{HasBest, list_by, lists_by}
 use Rattle.tp_search.specs.Stores.{StoreValue}
@@ -23,6 +24,7 @@ use Rattle.tp_search.specs.declared.goals.OpenGoal.{OpenGoal}
 use Rattle.tp_search.specs.declared.taking.Next.{Next}
 use Rattle.tp_search.specs.declared.taking.Next.TheVariants.{Goal, Node}
 use Rattle.tp_ways.proofs.WayAnswers.{goal-incomplete}
+use Rattle.tp_search.proofs.LimitFacts.{bound-within, no-limit, none-before-within, searched-whole}
 use Rattle.tp_search.proofs.SearchNext.{IsKnownNext, entry-open, next-known, waiting-cases}
 
 -- the list of this node is complete and ends first
@@ -34,19 +36,23 @@ pub record IsBestList (machine : Machine) (plans : List Plan) (ask : Ask) (s : S
   pub none_before : NoneBefore machine plans ask (bound_of s.entries node)
 
 module _ (machine : Machine) (plans : List Plan) (ask : Ask) (goals : List OpenGoal) (s : StoreValue) (bound : ℕ) (searching : IsSearching machine plans ask goals s bound) where
-  -- where no list waits there is no answer
+  none-waits : goals ≡ [] → s.waits ≡ [] → waiting_in machine goals s ≡ []
+  none-waits no-goals no-nodes = ap (λ gs. map list_of_goal gs ++ map (list_at machine s.entries) s.waits) no-goals ∙ ap (map (list_at machine s.entries)) no-nodes
+
+  -- where no list waits there is no limit, and each open child was opened
+  whole-ended : goals ≡ [] → s.waits ≡ [] → IsSearched machine plans ask [] searching.opened
+  whole-ended no-goals no-nodes =
+      let searched = subst (λ ls. IsSearchedTo machine plans ask s.limit ls searching.opened) (none-waits no-goals no-nodes) searching.searched in
+      searched-whole machine plans ask s.limit [] searching.opened searched (no-limit machine plans ask s.limit searching.opened searched searching.met)
+
+  -- nor is there an answer
   pub searching-never : SearchFronts → FrontierEnds → IsLegal machine plans → IsAsked machine plans ask → goals ≡ [] → s.waits ≡ [] → (plans' : List Plan) → IsAlternative machine plans ask plans' → ⊥
-  searching-never fronts ends legal asked no-goals no-nodes =
-      let front = fronts machine plans ask (waiting_in machine goals s) searching.opened searching.searched in
-      let none : waiting_in machine goals s ≡ [] = ap (λ gs. map list_of_goal gs ++ map (list_at machine s.entries) s.waits) no-goals ∙ ap (map (list_at machine s.entries)) no-nodes in
-      ends machine plans ask legal asked (subst (IsFrontier machine plans ask) none front)
+  searching-never fronts ends legal asked no-goals no-nodes = ends machine plans ask legal asked (fronts machine plans ask [] searching.opened (whole-ended no-goals no-nodes))
 
   -- nor are there more open lists with choices than nodes
   pub searching-few : EndedHasFew → length s.entries ≤ s.capacity → goals ≡ [] → s.waits ≡ [] → FewListsOpen machine plans ask s.capacity
   searching-few ended within no-goals no-nodes lists differ each =
-      let none : waiting_in machine goals s ≡ [] = ap (λ gs. map list_of_goal gs ++ map (list_at machine s.entries) s.waits) no-goals ∙ ap (map (list_at machine s.entries)) no-nodes in
-      let few =
-      ended machine plans ask searching.opened (lists_by machine s.entries) (subst (λ ls. IsSearched machine plans ask ls searching.opened) none searching.searched) searching.opened_stored lists differ each in
+      let few = ended machine plans ask searching.opened (lists_by machine s.entries) (whole-ended no-goals no-nodes) searching.opened_stored lists differ each in
       omega (arith, few, within, length-map s.entries (λ (e : Entry). list_by machine e.choices))
 
   module _ (goals' : List OpenGoal) (s' : StoreValue) (next : Next) (is-next : IsNext goals s goals' s' next) where
@@ -72,17 +78,21 @@ module _ (machine : Machine) (plans : List Plan) (ask : Ask) (goals : List OpenG
       ]
     ]
 
+    -- it is within the limit
+    pub next-within : IsWithin s.limit (next_bound s next)
+    next-within = bound-within machine plans ask s.limit (waiting_in machine goals s) searching.opened (next_bound s next) searching.searched searching.met next-below
+
     -- so no answer ends before it
-    pub next-none_before : SearchFronts → FrontierBounds → IsLegal machine plans → IsAsked machine plans ask → NoneBefore machine plans ask (next_bound s next)
-    next-none_before fronts bounds legal asked =
-        bounds machine plans ask (waiting_in machine goals s) (next_bound s next) legal asked (fronts machine plans ask (waiting_in machine goals s) searching.opened searching.searched) next-below
+    pub next-none_before : IsLegal machine plans → IsAsked machine plans ask → NoneBefore machine plans ask (next_bound s next)
+    next-none_before legal asked =
+        none-before-within machine plans ask s.limit (waiting_in machine goals s) searching.opened searching.searched (next_bound s next) legal asked next-below next-within
 
     -- a complete list that is stored, with a bound that is not greater, is a best one
-    pub searching-best : SearchFronts → FrontierBounds → IsLegal machine plans → IsAsked machine plans ask → (best : ℕ) → s.best ≡ Some best → bound_of s.entries best ≤ next_bound s next → IsBestList machine plans ask s best
-    searching-best fronts bounds legal asked best is low =
+    pub searching-best : IsLegal machine plans → IsAsked machine plans ask → (best : ℕ) → s.best ≡ Some best → bound_of s.entries best ≤ next_bound s next → IsBestList machine plans ask s best
+    searching-best legal asked best is low =
         let found = subst (HasBest machine ask s.entries) is searching.has_best in
         let entry = entry-open machine plans ask goals s bound searching best found.there in
-        let none = next-none_before fronts bounds legal asked in
+        let none = next-none_before legal asked in
         record {
           there = found.there;
           complete = found.complete;

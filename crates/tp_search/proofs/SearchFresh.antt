@@ -14,6 +14,7 @@ use Rattle.tp_schedule.specs.declared.parts.Origin.TheVariants.{Feeder as FromFe
 use Rattle.tp_schedule.specs.declared.parts.Plan.{Plan}
 use Rattle.tp_schedule.proofs.Membership.{Contains-map}
 use Rattle.tp_schedule.proofs.Pairs.{AllPairs-nil}
+use Rattle.tp_search.specs.Limits.{IsWithin}
 use Rattle.tp_search.specs.Opening.{IsAtProgress, IsFresh, IsOpenChild, parent_of}
 use Rattle.tp_search.specs.Opening.Progress.{nothing}
 use Rattle.tp_search.specs.Searching.{IsSearching, next_bound, next_list, next_node, opening_of}
@@ -77,8 +78,10 @@ module _ (machine : Machine) (plans : List Plan) (ask : Ask) (goals : List OpenG
   pub next-fresh : IsFresh machine ask (opening_of machine s next) s'
   next-fresh = subst (IsFresh machine ask (opening_of machine s next)) (sym known.same) (fresh-with s'.waits)
 
-  begin-with : (waits : List ℕ) → IsAtProgress machine plans ask (opening_of machine s next) (record s { waits = waits }) nothing
-  begin-with waits = record {
+  begin-with : IsWithin s.limit (next_bound s next) → (waits : List ℕ) → IsAtProgress machine plans ask (opening_of machine s next) (record s { waits = waits }) nothing
+  begin-with in-limit waits = record {
+    in_limit = in-limit;
+    met = searching.met;
     new = [];
     grown = sym (append-nil (take (length s.entries) s.entries) ∙ take_all (length s.entries) s.entries (omega arith));
     children = All-nil (IsOpenChild machine plans ask (parent_of machine s.entries (next_list machine s next).goal (next_node next)) (next_bound s next) (choices_before s.entries (next_node next)) nothing);
@@ -90,5 +93,5 @@ module _ (machine : Machine) (plans : List Plan) (ask : Ask) (goals : List OpenG
   }
 
   -- none of its children was looked at
-  pub next-begins : IsAtProgress machine plans ask (opening_of machine s next) s' nothing
-  next-begins = subst (λ t. IsAtProgress machine plans ask (opening_of machine s next) t nothing) (sym known.same) (begin-with s'.waits)
+  pub next-begins : IsWithin s.limit (next_bound s next) → IsAtProgress machine plans ask (opening_of machine s next) s' nothing
+  next-begins in-limit = subst (λ t. IsAtProgress machine plans ask (opening_of machine s next) t nothing) (sym known.same) (begin-with in-limit s'.waits)

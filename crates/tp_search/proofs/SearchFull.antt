@@ -13,6 +13,7 @@ use Rattle.tp_schedule.specs.declared.parts.Ask.{Ask}
 use Rattle.tp_schedule.specs.declared.parts.Plan.{Plan}
 use Rattle.tp_schedule.proofs.Membership.{Contains-cons_cases, Contains-later, Contains-map_from}
 use Rattle.tp_schedule.proofs.Pairs.{AllPairs-map}
+use Rattle.tp_search.specs.Limits.{HasNoLimit, IsLimitKept}
 use Rattle.tp_search.specs.Opening.{IsAtProgress, IsSameOpening}
 use Rattle.tp_search.specs.Opening.Progress.{up_to}
 use Rattle.tp_search.specs.Searching.{IsBestLater, IsNext, IsOpenEntry, IsSearching, next_bound, next_list, opening_of, waiting_in}
@@ -21,6 +22,7 @@ use Rattle.tp_search.specs.Stores.{StoreValue}
 use Rattle.tp_search.specs.declared.goals.OpenGoal.{OpenGoal}
 use Rattle.tp_search.specs.declared.opening.Opening.{Opening}
 use Rattle.tp_search.specs.declared.taking.Next.{Next}
+use Rattle.tp_search.proofs.LimitFacts.{none-before, searched-whole}
 use Rattle.tp_search.proofs.SearchEnds.{complete-later, next-below}
 use Rattle.tp_search.proofs.SearchNext.{IsKnownNext, next-known, node-stored, waiting-cases}
 use Rattle.tp_search.proofs.SearchOpened.{IsOpenedToEnd, all-apart, all-entries, from-opened, new-list, opened, opened-earlier, stored-cases, stored-on}
@@ -36,7 +38,7 @@ module _ (machine : Machine) (plans : List Plan) (ask : Ask) (goals : List OpenG
   known = next-known machine plans ask goals s bound searching goals' s' next is-next
 
   -- the store became full
-  module _ (progress : IsAtProgress machine plans ask o' s'' (up_to (length machine.actions) [])) (full : s''.full ≡ true) (later : IsBestLater s (next_bound s next)) where
+  module _ (progress : IsAtProgress machine plans ask o' s'' (up_to (length machine.actions) [])) (full : s''.full ≡ true) (none : HasNoLimit s''.limit) (later : IsBestLater s (next_bound s next)) where
     at-end : IsOpenedToEnd machine plans ask s next s''
     at-end = opened machine plans ask goals s bound goals' s' next searching known incomplete o' s'' same progress
 
@@ -83,10 +85,12 @@ module _ (machine : Machine) (plans : List Plan) (ask : Ask) (goals : List OpenG
     is-full : IsFull machine plans ask (waiting_in machine goals s) searching.opened (lists_by machine s''.entries) last (next_bound s next)
     is-full =
         let missing = at-end.spent full in
+        let kept = subst (λ m. IsLimitKept m s''.limit) (ap (λ (t : StoreValue). t.limit) known.same) same.grows.limit in
+        let whole = searched-whole machine plans ask s.limit (waiting_in machine goals s) searching.opened searching.searched (none-before s.limit s''.limit kept none) in
         record {
           searched = record {
             starts = λ list none opens. elim (searching.searched.starts list none opens) [ inl waits ↦ inl (Contains-later last (waiting_in machine goals s) list waits) | inr done ↦ inr done ];
-            spread = λ list child done is-child opens. elim (searching.searched.spread list child done is-child opens) [ inl waits ↦ inl (Contains-later last (waiting_in machine goals s) child waits) | inr too ↦ inr too ];
+            spread = λ list child done is-child opens. elim (whole.spread list child done is-child opens) [ inl waits ↦ inl (Contains-later last (waiting_in machine goals s) child waits) | inr too ↦ inr too ];
             unfinished = searching.searched.unfinished;
           };
           different = AllPairs-map (λ (a b : Entry). list_by machine a.choices ≢ list_by machine b.choices) (λ a b. a ≢ b) (λ e. Unit {0}) (λ (e : Entry). list_by machine e.choices) s''.entries (λ k d below. tt)

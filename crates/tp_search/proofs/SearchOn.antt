@@ -8,7 +8,8 @@ use Rattle.tp_schedule.specs.declared.parts.Ask.{Ask}
 use Rattle.tp_schedule.specs.declared.parts.Plan.{Plan}
 use Rattle.tp_schedule.proofs.Membership.{Contains-cons_cases, Contains-here, Contains-later}
 use Rattle.tp_choices.specs.Parents.{ParentBound}
-use Rattle.tp_choices.specs.Searches.{IsKnown, IsSearched}
+use Rattle.tp_choices.specs.Searches.{IsKnown}
+use Rattle.tp_search.specs.Limits.{IsLimitKept, IsSearchedTo, OpensWithin}
 use Rattle.tp_search.specs.Opening.{IsAtProgress, IsSameOpening}
 use Rattle.tp_search.specs.Opening.Progress.{up_to}
 use Rattle.tp_search.specs.Searching.{IsNext, IsSearching, next_bound, next_list, opening_of, waiting_in}
@@ -17,6 +18,7 @@ use Rattle.tp_search.specs.Stores.{HasBounds, StoreGrows, StoreValue}
 use Rattle.tp_search.specs.declared.goals.OpenGoal.{OpenGoal}
 use Rattle.tp_search.specs.declared.opening.Opening.{Opening}
 use Rattle.tp_search.specs.declared.taking.Next.{Next}
+use Rattle.tp_search.proofs.LimitFacts.{within-before}
 use Rattle.tp_search.proofs.SearchGrown.{entry-new, entry-stays, grown-come, grown-known, grown-only, grown-stay}
 use Rattle.tp_search.proofs.SearchNext.{IsKnownNext, next-known}
 use Rattle.tp_search.proofs.SearchOpened.{IsOpenedToEnd, all-apart, all-entries, child-stored, from-opened, new-child, new-list, opened, opened-earlier, stored-on}
@@ -62,12 +64,18 @@ module _ (machine : Machine) (plans : List Plan) (ask : Ask) (goals : List OpenG
   ]
   known-on l (inr opened) = inr (Contains-later list searching.opened l opened)
 
-  searched-on : s''.full ≡ false → IsSearched machine plans ask (waiting_in machine goals' s'') more
+  -- what is within the limit now was so before
+  before : (l : ChoiceList) → OpensWithin machine plans ask s''.limit l → OpensWithin machine plans ask s.limit l
+  before l opens =
+      let kept = subst (λ m. IsLimitKept m s''.limit) (ap (λ (t : StoreValue). t.limit) known.same) grows.limit in
+      record { end = opens.end; opens = opens.opens; within = within-before s.limit s''.limit kept opens.end opens.within }
+
+  searched-on : s''.full ≡ false → IsSearchedTo machine plans ask s''.limit (waiting_in machine goals' s'') more
   searched-on not-full = record {
     starts = λ l empty opens. known-on l (searching.searched.starts l empty opens);
     spread = λ l child there is-child opens. elim (Contains-cons_cases list searching.opened l there) [
       | inl same ↦ inl (new-waits child (child-stored machine plans ask goals s bound goals' s' next searching known not s'' opening not-full child (subst (λ p. IsChild machine ask p child) (sym same) is-child) opens))
-      | inr earlier ↦ known-on child (searching.searched.spread l child earlier is-child opens)
+      | inr earlier ↦ known-on child (searching.searched.spread l child earlier is-child (before child opens))
     ];
     unfinished = λ l there complete. elim (Contains-cons_cases list searching.opened l there) [
       | inl same ↦ not (subst (IsComplete machine ask) (sym same) complete)
@@ -128,6 +136,7 @@ module _ (machine : Machine) (plans : List Plan) (ask : Ask) (goals : List OpenG
   search-on goals-later later not-full = record {
     opened = more;
     searched = searched-on not-full;
+    met = opening.met;
     goals_bound = known.goals_bound;
     goals_apart = known.goals_apart;
     goals_later = goals-later;

@@ -6,13 +6,14 @@ use Rattle.std.proofs.lemmas.List.Elements.{All-append, All-cons, All-contains, 
 use Rattle.tp_machine.specs.declared.machine.Machine.{Machine}
 use Rattle.tp_pool.specs.Entries.{Entry, choices_before}
 use Rattle.tp_pool.specs.declared.choice.Choice.{Choice as Stored}
-use Rattle.tp_schedule.specs.Choices.{ChoiceList, IsBound, IsChild, IsComplete, IsOpen, OpensTo}
+use Rattle.tp_schedule.specs.Choices.{ChoiceList, IsBound, IsChild, IsComplete, OpensTo}
 use Rattle.tp_schedule.specs.Spending.{IsStoredOrEmpty}
 use Rattle.tp_schedule.specs.declared.parts.Ask.{Ask}
 use Rattle.tp_schedule.specs.declared.parts.Plan.{Plan}
 use Rattle.tp_schedule.proofs.Membership.{All-from_contains, Contains-cons_cases, Contains-here, Contains-later, Contains-map_from}
 use Rattle.tp_constraints.proofs.Lists.{AllPairs-append}
 use Rattle.tp_search.specs.Following.{HaveGoal, IsStoredList}
+use Rattle.tp_search.specs.Limits.{OpensWithin}
 use Rattle.tp_search.specs.Opening.{IsAtProgress, IsOpenChild, IsOpening, IsSameOpening, Progress, parent_of}
 use Rattle.tp_search.specs.Opening.Progress.{up_to}
 use Rattle.tp_search.specs.Searching.{IsOpenEntry, IsSearching, next_bound, next_list, next_node, opening_of}
@@ -30,13 +31,13 @@ use Rattle.tp_search.proofs.SearchParents.{child-looked, child-some, one-parent}
 -- the opening of the next list, whose children were all looked at
 abbrev pub IsOpenedToEnd : Machine → List Plan → Ask → StoreValue → Next → StoreValue → Type 0
 IsOpenedToEnd machine plans ask s next s'' =
-    IsOpening machine plans ask (next_list machine s next) (next_bound s next) (choices_before s.entries (next_node next)) s.entries (up_to (length machine.actions) []) s''.entries s''.capacity s''.full s''.best
+    IsOpening machine plans ask (next_list machine s next) (next_bound s next) s''.limit (choices_before s.entries (next_node next)) s.entries (up_to (length machine.actions) []) s''.entries s''.capacity s''.full s''.best
 
 module _ (machine : Machine) (plans : List Plan) (ask : Ask) (goals : List OpenGoal) (s : StoreValue) (bound : ℕ) (goals' : List OpenGoal) (s' : StoreValue) (next : Next)
     (searching : IsSearching machine plans ask goals s bound) (known : IsKnownNext machine plans ask goals s bound goals' s' next) (not : ¬ IsComplete machine ask (next_list machine s next)) where
   -- an opening, said of the list that was taken and of the entries as they were then
   pub next-opening : (o' : Opening) (s'' : StoreValue) (p : Progress) → IsSameOpening (opening_of machine s next) o' s' s'' → IsAtProgress machine plans ask o' s'' p
-      → IsOpening machine plans ask (next_list machine s next) (next_bound s next) (choices_before s.entries (next_node next)) s.entries p s''.entries s''.capacity s''.full s''.best
+      → IsOpening machine plans ask (next_list machine s next) (next_bound s next) s''.limit (choices_before s.entries (next_node next)) s.entries p s''.entries s''.capacity s''.full s''.best
   next-opening o' s'' p same progress =
       let o = opening_of machine s next in
       let list = next_list machine s next in
@@ -46,10 +47,10 @@ module _ (machine : Machine) (plans : List Plan) (ask : Ask) (goals : List OpenG
       let is-list = parent-same machine ask o o' s' s'' same fresh ∙ ap (λ es. parent_of machine es list.goal (next_node next)) entries ∙ sym (next-going machine plans ask goals s bound goals' s' next searching known not) in
       let is-before = before-same machine ask o o' s' s'' same fresh ∙ ap (λ es. choices_before es (next_node next)) entries in
       let is-base = stored-same machine ask o o' s' s'' same fresh ∙ ap (take (length s.entries)) entries ∙ take_all (length s.entries) s.entries (omega arith) in
-      let first = subst (λ l. IsOpening machine plans ask l o'.bound (choices_before s''.entries o'.parent) (take o'.stored s''.entries) p s''.entries s''.capacity s''.full s''.best) is-list progress in
-      let second = subst (λ b. IsOpening machine plans ask list b (choices_before s''.entries o'.parent) (take o'.stored s''.entries) p s''.entries s''.capacity s''.full s''.best) same.bound first in
-      let third = subst (λ cs. IsOpening machine plans ask list (next_bound s next) cs (take o'.stored s''.entries) p s''.entries s''.capacity s''.full s''.best) is-before second in
-      subst (λ es. IsOpening machine plans ask list (next_bound s next) before es p s''.entries s''.capacity s''.full s''.best) is-base third
+      let first = subst (λ l. IsOpening machine plans ask l o'.bound s''.limit (choices_before s''.entries o'.parent) (take o'.stored s''.entries) p s''.entries s''.capacity s''.full s''.best) is-list progress in
+      let second = subst (λ b. IsOpening machine plans ask list b s''.limit (choices_before s''.entries o'.parent) (take o'.stored s''.entries) p s''.entries s''.capacity s''.full s''.best) same.bound first in
+      let third = subst (λ cs. IsOpening machine plans ask list (next_bound s next) s''.limit cs (take o'.stored s''.entries) p s''.entries s''.capacity s''.full s''.best) is-before second in
+      subst (λ es. IsOpening machine plans ask list (next_bound s next) s''.limit before es p s''.entries s''.capacity s''.full s''.best) is-base third
 
   pub opened : (o' : Opening) (s'' : StoreValue) → IsSameOpening (opening_of machine s next) o' s' s'' → IsAtProgress machine plans ask o' s'' (up_to (length machine.actions) [])
       → IsOpenedToEnd machine plans ask s next s''
@@ -72,9 +73,9 @@ module _ (machine : Machine) (plans : List Plan) (ask : Ask) (goals : List OpenG
         let from = Contains-map_from (λ (e : Entry). list_by machine e.choices) opening.new l there in
         subst (IsChild machine ask (next_list machine s next)) (sym from.2) (new-child from.0 from.1).is_child
 
-    -- each open child was stored, unless the store is full
-    pub child-stored : s''.full ≡ false → (l : ChoiceList) → IsChild machine ask (next_list machine s next) l → IsOpen machine plans ask l → Contains (lists_by machine opening.new) l
-    child-stored not-full l child opens = elim (opening.reached l child (child-looked machine plans ask (next_list machine s next) l child opens) opens) [
+    -- each child that opens to an end within the limit was stored, unless the store is full
+    pub child-stored : s''.full ≡ false → (l : ChoiceList) → IsChild machine ask (next_list machine s next) l → OpensWithin machine plans ask s''.limit l → Contains (lists_by machine opening.new) l
+    child-stored not-full l child opens = elim (opening.reached l child (child-looked machine plans ask (next_list machine s next) l child (opens.end, opens.opens)) opens) [
       | inl full ↦ absurd (false≢true (sym not-full ∙ full))
       | inr there ↦ there
     ]

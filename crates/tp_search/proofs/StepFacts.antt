@@ -14,23 +14,28 @@ use Rattle.tp_schedule.specs.Legality.{IsLegal}
 use Rattle.tp_schedule.specs.Spending.{IsSpent}
 use Rattle.tp_schedule.specs.declared.parts.Ask.{Ask}
 use Rattle.tp_schedule.specs.declared.parts.Plan.{Plan}
-use Rattle.tp_choices.proofs.Frontier.{frontier_bounds}
 use Rattle.tp_choices.proofs.Leaving.{parent_bound}
-use Rattle.tp_choices.proofs.Searching.{full_spends, search_fronts}
+use Rattle.tp_choices.proofs.Searching.{full_spends}
 use Rattle.tp_placing.specs.Boards.{BoardValue}
+use Rattle.tp_search.specs.Boards.{IsBack}
 use Rattle.tp_search.specs.Following.{HasList}
 use Rattle.tp_search.specs.Holding.{HoldsList, IsOneMore}
+use Rattle.tp_search.specs.Limits.{HasNoLimit}
 use Rattle.tp_search.specs.Opening.{IsAtProgress, IsFresh, IsOpenChild, IsOpening, IsSameOpening, parent_of}
 use Rattle.tp_search.specs.Opening.Progress.{nothing, up_to}
-use Rattle.tp_search.specs.Outcomes.{CanLay, CanOpen, IsAllOpened}
+use Rattle.tp_search.specs.Outcomes.{CanLay, CanOpen, IsAllOpened, IsOutcome}
 use Rattle.tp_search.specs.Searching.{IsBestLater, IsNext, IsSameSpace, IsSearching, next_bound, next_list, next_node, opening_of, still_to_take}
 use Rattle.tp_search.specs.Stores.{HasBounds, StoreGrows, StoreValue}
 use Rattle.tp_search.specs.declared.goals.OpenGoal.{OpenGoal}
 use Rattle.tp_search.specs.declared.holding.HeldList.{HeldList}
 use Rattle.tp_search.specs.declared.opening.Opening.{Opening}
+use Rattle.tp_search.specs.declared.searching.Outcome.{Outcome}
+use Rattle.tp_search.specs.declared.searching.Outcome.TheVariants.{Again, Spent}
+use Rattle.tp_search.specs.declared.store.Limit.{Limit}
+use Rattle.tp_search.specs.declared.store.Limit.TheVariants.{By, Sought, Unsought}
 use Rattle.tp_search.specs.declared.taking.Next.{Next}
 use Rattle.tp_search.specs.declared.taking.Next.TheVariants.{Goal, Node}
-use Rattle.tp_search.proofs.SearchEnds.{IsBestList, next-incomplete, next-none_before, searching-best}
+use Rattle.tp_search.proofs.SearchEnds.{IsBestList, next-incomplete, next-none_before, next-within, searching-best}
 use Rattle.tp_search.proofs.SearchFresh.{next-begins, next-fresh, next-going}
 use Rattle.tp_search.proofs.SearchGrown.{entry-new}
 use Rattle.tp_search.proofs.SearchOpened.{next-opening}
@@ -89,7 +94,7 @@ module _ (machine : Machine) (plans : List Plan) (ask : Ask) (goals : List OpenG
   pub best-list : IsLegal machine plans → IsAsked machine plans ask → (best : ℕ) → s'.best ≡ Some best → bound_of s'.entries best ≤ next_bound s' next → IsBestList machine plans ask s' best
   best-list legal asked best is low =
       subst (λ t. IsBestList machine plans ask t best) (sym known.same)
-      (as-taken (searching-best machine plans ask goals s bound searching goals' s' next is-next search_fronts frontier_bounds legal asked best (ap (λ (t : StoreValue). t.best) (sym known.same) ∙ is) (subst (λ b. bound_of s.entries best ≤ b) bound-same (subst (λ (t : StoreValue). bound_of t.entries best ≤ next_bound s' next) known.same low))))
+      (as-taken (searching-best machine plans ask goals s bound searching goals' s' next is-next legal asked best (ap (λ (t : StoreValue). t.best) (sym known.same) ∙ is) (subst (λ b. bound_of s.entries best ≤ b) bound-same (subst (λ (t : StoreValue). bound_of t.entries best ≤ next_bound s' next) known.same low))))
     where
       as-taken : IsBestList machine plans ask s best → IsBestList machine plans ask (record s { waits = s'.waits }) best
       as-taken l = record { there = l.there; complete = l.complete; is_bound = l.is_bound; formed = l.formed; none_before = l.none_before }
@@ -111,7 +116,7 @@ module _ (machine : Machine) (plans : List Plan) (ask : Ask) (goals : List OpenG
       goes_on = list-same ∙ next-going machine plans ask goals s bound goals' s' next searching known incomplete ∙ sym parent-is;
       fresh = subst (λ o. IsFresh machine ask o s') (sym opening-same) (next-fresh machine plans ask goals s bound goals' s' next searching known incomplete);
       range = subst (HasBounds machine ask) (sym known.same) searching.range;
-      begins = subst (λ o. IsAtProgress machine plans ask o s' nothing) (sym opening-same) (next-begins machine plans ask goals s bound goals' s' next searching known incomplete);
+      begins = subst (λ o. IsAtProgress machine plans ask o s' nothing) (sym opening-same) (next-begins machine plans ask goals s bound goals' s' next searching known incomplete (next-within machine plans ask goals s bound searching goals' s' next is-next));
     } where
       parent-is : parent_of machine s'.entries (next_list machine s' next).goal (next_node next) ≡ parent_of machine s.entries (next_list machine s next).goal (next_node next)
       parent-is =
@@ -120,7 +125,7 @@ module _ (machine : Machine) (plans : List Plan) (ask : Ask) (goals : List OpenG
 
     -- no alternative ends before its bound
     pub step-none_before : IsLegal machine plans → IsAsked machine plans ask → NoneBefore machine plans ask (next_bound s' next)
-    step-none_before legal asked = subst (NoneBefore machine plans ask) (sym bound-same) (next-none_before machine plans ask goals s bound searching goals' s' next is-next search_fronts frontier_bounds legal asked)
+    step-none_before legal asked = subst (NoneBefore machine plans ask) (sym bound-same) (next-none_before machine plans ask goals s bound searching goals' s' next is-next legal asked)
 
     -- while it was opened, lists were stored
     pub space-then : (s'' : StoreValue) → StoreGrows s' s'' → (gs gs' : Vec OpenGoal Global) → IsSameSpace gs gs' s s' → IsSameSpace gs gs' s s''
@@ -134,15 +139,15 @@ module _ (machine : Machine) (plans : List Plan) (ask : Ask) (goals : List OpenG
       same : IsSameOpening (opening_of machine s next) o s' s''
       same = subst (λ x. IsSameOpening x o s' s'') opening-same (record { goal = refl; parent = refl; bound = refl; stored = refl; grows = all.grows })
 
-      grown-by : IsOpening machine plans ask (next_list machine s next) (next_bound s next) (choices_before s.entries (next_node next)) s.entries (up_to (length machine.actions) []) s''.entries s''.capacity s''.full s''.best
+      grown-by : IsOpening machine plans ask (next_list machine s next) (next_bound s next) s''.limit (choices_before s.entries (next_node next)) s.entries (up_to (length machine.actions) []) s''.entries s''.capacity s''.full s''.best
       grown-by = next-opening machine plans ask goals s bound goals' s' next searching known incomplete o s'' (up_to (length machine.actions) []) same all.progress
 
       room-then : s''.capacity ≡ s.capacity
       room-then = all.grows.capacity ∙ room-same
 
-      pub step-full : s''.full ≡ true → IsLegal machine plans → IsAsked machine plans ask → IsSpent machine plans ask s.capacity (next_bound s' next)
-      step-full full legal asked = subst (IsSpent machine plans ask s.capacity) (sym bound-same)
-          (searching-full machine plans ask goals s bound searching goals' s' next is-next incomplete o s'' same all.progress full (later-then later) full_spends legal asked)
+      pub step-full : s''.full ≡ true → HasNoLimit s''.limit → IsLegal machine plans → IsAsked machine plans ask → IsSpent machine plans ask s.capacity (next_bound s' next)
+      step-full full none legal asked = subst (IsSpent machine plans ask s.capacity) (sym bound-same)
+          (searching-full machine plans ask goals s bound searching goals' s' next is-next incomplete o s'' same all.progress full none (later-then later) full_spends legal asked)
 
       pub step-on : s''.full ≡ false → IsSearching machine plans ask goals' s'' (next_bound s' next)
       step-on not-full = subst (IsSearching machine plans ask goals' s'') (sym bound-same)
@@ -179,3 +184,16 @@ module _ (machine : Machine) (plans : List Plan) (ask : Ask) (goals : List OpenG
 
           taken-less : length s'.entries ≡ length s.entries → s''.capacity ≡ s.capacity → length s''.waits + length s'.entries ≡ length s'.waits + length s''.entries → length s'.entries ≤ length s''.entries → still_to_take goals' s'' < still_to_take goals s
           taken-less entries rooms grows longer = (let less = one-taken in omega arith)
+
+-- how a search ends whose store is full: the budget is spent, or lists beyond a limit were left out
+pub full-ends : {N : Type 0} (reading : Reading N) (b b' : BoardValue N) (machine : Machine) (ask : Ask) (nodes bound : ℕ) (limit : Limit) (outcome : Outcome) → (HasNoLimit limit → outcome ≡ Spent bound) → (¬ HasNoLimit limit → outcome ≡ Again)
+    → (HasNoLimit limit → IsSpent machine b.plans ask nodes bound) → IsBack reading b b' machine → IsOutcome reading b b' machine ask nodes outcome
+full-ends reading b b' machine ask nodes bound Unsought outcome spent again is back = subst (IsOutcome reading b b' machine ask nodes) (sym (spent tt)) (is tt, back)
+full-ends reading b b' machine ask nodes bound Sought outcome spent again is back = subst (IsOutcome reading b b' machine ask nodes) (sym (spent tt)) (is tt, back)
+full-ends reading b b' machine ask nodes bound (By l) outcome spent again is back = subst (IsOutcome reading b b' machine ask nodes) (sym (again (λ none. none))) back
+
+spent-other : (bound : ℕ) → Spent bound ≡ Again → ⊥
+spent-other bound is = cc
+
+pub again-limited : (bound : ℕ) (limit : Limit) (outcome : Outcome) → (HasNoLimit limit → outcome ≡ Spent bound) → outcome ≡ Again → ¬ HasNoLimit limit
+again-limited bound limit outcome spent again none = spent-other bound (sym (spent none) ∙ again)

@@ -5,6 +5,9 @@ use Rattle.std.proofs.lemmas.List.{append-nil, append_assoc, get_or_append_left,
 use Rattle.std.proofs.lemmas.List.Elements.{Contains-append_left, Contains-push, Contains-push_cases}
 use Rattle.tp_pool.specs.Entries.{Entry, IsParentOf, choices_before}
 use Rattle.tp_pool.specs.declared.choice.Choice.{Choice as Stored}
+use Rattle.tp_search.specs.Limits.{IsLimitKept}
+use Rattle.tp_search.specs.declared.store.Limit.{Limit}
+use Rattle.tp_search.specs.declared.store.Limit.TheVariants.{By, Sought, Unsought}
 use Rattle.tp_search.specs.Stores.{StoreGrows, StoreValue, after_keep, entry_of, with_list}
 
 -- the choices of a parent that was stored stay
@@ -12,6 +15,16 @@ pub choices-stay : (entries new : List Entry) (stored : ℕ) (parent : Option �
 choices-stay entries new stored None known within = refl
 choices-stay entries new stored (Some node) known within =
     ap (λ (e : Entry). e.choices) (get_or_append_left entries new (record { choices = []; bound = 0 }) node (omega arith))
+
+pub limit-itself : (limit : Limit) → IsLimitKept limit limit
+limit-itself Unsought = refl
+limit-itself Sought = tt
+limit-itself (By l) = refl
+
+pub limit-trans : (a b c : Limit) → IsLimitKept a b → IsLimitKept b c → IsLimitKept a c
+limit-trans Unsought b c first second = subst (λ l. IsLimitKept l c) first second
+limit-trans Sought b c first second = tt
+limit-trans (By l) b c first second = subst (λ m. IsLimitKept m c) first second
 
 pub grows-itself : (s : StoreValue) → StoreGrows s s
 grows-itself s = record {
@@ -24,6 +37,7 @@ grows-itself s = record {
   come = λ node from below. absurd (omega arith);
   only = λ node waits. inl waits;
   as_many = refl;
+  limit = limit-itself s.limit;
 }
 
 pub as-long : (s s' : StoreValue) → StoreGrows s s' → length s.entries ≤ length s'.entries
@@ -52,6 +66,7 @@ grows-trans a b c first second =
         | inr new ↦ inr (omega arith, new.1)
       ];
       as_many = omega (arith, first.as_many, second.as_many);
+      limit = limit-trans a.limit b.limit c.limit first.limit second.limit;
     }
 
 grows-by_list : (parent : Option ℕ) (choice : Stored) (bound : ℕ) (complete : Bool) (s : StoreValue) → StoreGrows s (with_list parent choice bound complete s)
@@ -70,6 +85,7 @@ grows-by_list parent choice bound complete s =
         | inr same ↦ inr (omega arith, omega arith)
       ];
       as_many = omega (arith, length-append s.waits (length s.entries ∷ []));
+      limit = limit-itself s.limit;
     }
 
 -- a store that keeps a list grows
@@ -86,8 +102,24 @@ grows-by_keep parent choice bound complete s = go (length s.entries == s.capacit
     come = λ node from below. absurd (omega arith);
     only = λ node waits. inl waits;
     as_many = refl;
+    limit = limit-itself s.limit;
   }
   go false = grows-by_list parent choice bound complete s
+
+-- a store whose limit is kept or found grows
+pub grows-by_limit : (s : StoreValue) (limit : Limit) → IsLimitKept s.limit limit → StoreGrows s (record s { limit = limit })
+grows-by_limit s limit kept = record {
+  new = [];
+  entries = sym (append-nil s.entries);
+  capacity = refl;
+  base = refl;
+  width = refl;
+  stay = λ node waits. waits;
+  come = λ node from below. absurd (omega arith);
+  only = λ node waits. inl waits;
+  as_many = refl;
+  limit = kept;
+}
 
 pub choices-grow : (s s' : StoreValue) (stored : ℕ) (parent : Option ℕ) → StoreGrows s s' → IsParentOf stored parent → stored ≤ length s.entries → choices_before s'.entries parent ≡ choices_before s.entries parent
 choices-grow s s' stored parent grows known within =

@@ -12,6 +12,7 @@ use Rattle.tp_pool.specs.Entries.{Entries, Entry, bound_of}
 use Rattle.tp_pool.specs.declared.choice.Choice.{Choice as Stored}
 use Rattle.tp_pool.specs.Queues.{BucketQueue, IsIn, IsLeastIn, IsTaken as IsOut, Queued, nodes_of}
 use Rattle.tp_pool.proofs.CallerFacts.{in_taken, queued-as, same_test}
+use Rattle.tp_search.specs.declared.store.Limit.{Limit}
 use Rattle.tp_search.specs.Stores.{HasSooner, IsStore, IsTaken, StoreValue, after_keep, better, entry_of, is_sooner, store_of, waits_in, with_list}
 
 filter-alike : (p q : ℕ → Bool) (a n : ℕ) → ((k : ℕ) → a ≤ k → k < a + n → p k ≡ q k) → filter p (range_with_len a n) ≡ filter q (range_with_len a n)
@@ -107,7 +108,7 @@ one-less p q node a (suc n) from below is out same =
           omega (arith, l, m, rest, alike))
     ]
 
-module _ (pool : Entries) (queue : BucketQueue) (best : Option ℕ) (full : Bool) (is : IsStore pool queue best) where
+module _ (pool : Entries) (queue : BucketQueue) (best : Option ℕ) (full : Bool) (most : Limit) (is : IsStore pool queue best) where
   -- the bound of an entry that waits is that of its node in the queue
   bound-queued : (q : Queued) → Contains queue.queued q → q.bound ≡ bound_of pool.entries q.node
   bound-queued q there = All-contains (λ (r : Queued). r.bound ≡ bound_of pool.entries r.node) queue.queued q is.bounds there
@@ -121,7 +122,7 @@ module _ (pool : Entries) (queue : BucketQueue) (best : Option ℕ) (full : Bool
       omega arith
 
   -- whether a list with a smaller bound waits is to be seen from the first one
-  pub sooner-first : (node limit : ℕ) → IsLeastIn node queue.queued → (bound_of pool.entries node < limit) ↔ HasSooner (store_of pool queue best full) limit
+  pub sooner-first : (node limit : ℕ) → IsLeastIn node queue.queued → (bound_of pool.entries node < limit) ↔ HasSooner (store_of pool queue best full most) limit
   sooner-first node limit first = ((λ lt. (node, waits, lt)), back) where
     q : Queued
     q = record { node = node; bound = first.bound }
@@ -135,15 +136,15 @@ module _ (pool : Entries) (queue : BucketQueue) (best : Option ℕ) (full : Bool
     waits : Contains (waits_in (length pool.entries) queue.queued) node
     waits = queued-waits (length pool.entries) node queue.queued in' known
 
-    back : HasSooner (store_of pool queue best full) limit → bound_of pool.entries node < limit
+    back : HasSooner (store_of pool queue best full most) limit → bound_of pool.entries node < limit
     back (other, there, lt) = let low = no-less first.bound other first.least (waits-queued (length pool.entries) other queue.queued there).0 in let e = bound-queued q first.there in omega arith
 
-  pub sooner-here : (seen : Bool) (node least limit : ℕ) → IsLeastIn node queue.queued → least ≡ bound_of pool.entries node → seen ≡ nat_lt least limit → IsTrue seen ↔ HasSooner (store_of pool queue best full) limit
+  pub sooner-here : (seen : Bool) (node least limit : ℕ) → IsLeastIn node queue.queued → least ≡ bound_of pool.entries node → seen ≡ nat_lt least limit → IsTrue seen ↔ HasSooner (store_of pool queue best full most) limit
   sooner-here seen node least limit first is-bound e =
       let both = sooner-first node limit first in
       ((λ yes'. both.0 (subst (λ n. n < limit) is-bound (ltb-true least limit (sym e ∙ yes')))), (λ sooner. e ∙ lt-ltb least limit (subst (λ n. n < limit) (sym is-bound) (both.1 sooner))))
 
-  pub sooner-none : (limit : ℕ) → queue.queued ≡ [] → ¬ HasSooner (store_of pool queue best full) limit
+  pub sooner-none : (limit : ℕ) → queue.queued ≡ [] → ¬ HasSooner (store_of pool queue best full most) limit
   sooner-none limit none (other, there, lt) = let e = ap length ((empty-waits (length pool.entries) queue.queued is.known).0 none) in absurd (omega (arith, there.1))
 
   -- a node taken out of the queue waits no longer
@@ -169,7 +170,7 @@ module _ (pool : Entries) (queue : BucketQueue) (best : Option ℕ) (full : Bool
     not-now : is-queued queue'.queued node ≡ false
     not-now = elim (cases_Bool (is-queued queue'.queued node)) [ inl is ↦ absurd (gone is) | inr differs ↦ differs ]
 
-    pub taken-out : IsTaken (store_of pool queue best full) node (store_of pool queue' best full)
+    pub taken-out : IsTaken (store_of pool queue best full most) node (store_of pool queue' best full most)
     taken-out = record {
       waited = queued-waits (length pool.entries) node queue.queued in' known;
       gone = λ waits. gone (waits-queued (length pool.entries) node queue'.queued waits).0;
@@ -249,18 +250,18 @@ module _ (pool pool' : Entries) (queue queue' : BucketQueue) (best best' : Optio
     go false = old best is.best_known
 
 -- and is seen behind the others
-pub more-view : (pool pool' : Entries) (queue queue' : BucketQueue) (best best' : Option ℕ) (full : Bool) (s : StoreValue) (parent : Option ℕ) (choice : Stored) (bound : ℕ) (complete : Bool)
-    → store_of pool queue best full ≡ s → pool' ≡ record { capacity = pool.capacity; entries = pool.entries ++ entry_of pool.entries parent choice bound ∷ [] } → length pool.entries ≢ pool.capacity
+pub more-view : (pool pool' : Entries) (queue queue' : BucketQueue) (best best' : Option ℕ) (full : Bool) (most : Limit) (s : StoreValue) (parent : Option ℕ) (choice : Stored) (bound : ℕ) (complete : Bool)
+    → store_of pool queue best full most ≡ s → pool' ≡ record { capacity = pool.capacity; entries = pool.entries ++ entry_of pool.entries parent choice bound ∷ [] } → length pool.entries ≢ pool.capacity
     → waits_in (length pool'.entries) queue'.queued ≡ waits_in (length pool.entries) queue.queued ++ length pool.entries ∷ [] → queue'.base ≡ queue.base → queue'.width ≡ queue.width
     → best' ≡ better pool.entries complete bound (length pool.entries) best
-    → store_of pool' queue' best' full ≡ after_keep parent choice bound complete s
-more-view pool pool' queue queue' best best' full s parent choice bound complete view added space waits base width better' =
-    subst (λ v. store_of pool' queue' best' full ≡ after_keep parent choice bound complete v) view (fields ∙ sym kept)
+    → store_of pool' queue' best' full most ≡ after_keep parent choice bound complete s
+more-view pool pool' queue queue' best best' full most s parent choice bound complete view added space waits base width better' =
+    subst (λ v. store_of pool' queue' best' full most ≡ after_keep parent choice bound complete v) view (fields ∙ sym kept)
   where
     before : StoreValue
-    before = store_of pool queue best full
+    before = store_of pool queue best full most
 
-    kept : after_keep parent choice bound complete (store_of pool queue best full) ≡ with_list parent choice bound complete (store_of pool queue best full)
+    kept : after_keep parent choice bound complete (store_of pool queue best full most) ≡ with_list parent choice bound complete (store_of pool queue best full most)
     kept = (let e = ne_eqb (length pool.entries) pool.capacity space in rw e refl)
 
     entries : pool'.entries ≡ pool.entries ++ entry_of pool.entries parent choice bound ∷ []
@@ -269,5 +270,5 @@ more-view pool pool' queue queue' best best' full s parent choice bound complete
     room : pool'.capacity ≡ pool.capacity
     room = ap (λ (v : Entries). v.capacity) added
 
-    fields : store_of pool' queue' best' full ≡ with_list parent choice bound complete (store_of pool queue best full)
+    fields : store_of pool' queue' best' full most ≡ with_list parent choice bound complete (store_of pool queue best full most)
     fields = rw (waits, entries, room, base, width, better') refl

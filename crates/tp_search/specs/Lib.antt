@@ -6,6 +6,7 @@ pub mod States
 pub mod WayLaws
 pub mod Following
 pub mod Holding
+pub mod Limits
 pub mod Searching
 pub mod Outcomes
 pub mod Trials

@@ -8,6 +8,8 @@ use Rattle.tp_schedule.specs.Choices.{Choice, ChoiceList, IsBound, IsChild, IsCo
 use Rattle.tp_schedule.specs.declared.parts.Ask.{Ask}
 use Rattle.tp_schedule.specs.declared.parts.Plan.{Plan}
 use Rattle.tp_search.specs.declared.opening.Opening.{Opening}
+use Rattle.tp_search.specs.Limits.{IsMetLimit, IsWithin, OpensWithin}
+use Rattle.tp_search.specs.declared.store.Limit.{Limit}
 use Rattle.tp_search.specs.Stored.{HasBest, choices_by, list_by, lists_by}
 use Rattle.tp_search.specs.Stores.{StoreGrows, StoreValue}
 
@@ -63,14 +65,17 @@ module _ (machine : Machine) (plans : List Plan) (ask : Ask) (parent : ChoiceLis
     pub is_open : IsOpen machine plans ask child
     pub not_stored : Contains (lists_by machine entries) child → ⊥
 
-  -- the children that were looked at, where they are open: stored behind the entries that there were, each once, unless the
-  -- store is full. None of them is complete with the parent's bound, and the best complete list that is stored is known
-  pub record IsOpening (before : List Stored) (base : List Entry) (progress : Progress) (entries : List Entry) (room : ℕ) (full : Bool) (best : Option ℕ) : Type 0 where
+  -- the children that were looked at, where they open to an end within the limit: stored behind the entries that there were, each
+  -- once, unless the store is full. None of them is complete with the parent's bound, which is within the limit, and the best
+  -- complete list that is stored is known
+  pub record IsOpening (limit : Limit) (before : List Stored) (base : List Entry) (progress : Progress) (entries : List Entry) (room : ℕ) (full : Bool) (best : Option ℕ) : Type 0 where
+    pub in_limit : IsWithin limit bound
+    pub met : IsMetLimit machine plans ask limit
     pub new : List Entry
     pub grown : entries ≡ base ++ new
     pub children : All (IsOpenChild before progress) new
     pub apart : AllPairs (λ a b. list_by machine a.choices ≢ list_by machine b.choices) new
-    pub reached : (child : ChoiceList) → IsChild machine ask parent child → IsLooked progress child → IsOpen machine plans ask child → IsTrue full ⊎ Contains (lists_by machine new) child
+    pub reached : (child : ChoiceList) → IsChild machine ask parent child → IsLooked progress child → OpensWithin machine plans ask limit child → IsTrue full ⊎ Contains (lists_by machine new) child
     pub finished : (child : ChoiceList) → IsLooked progress child → ¬ Answers child
     pub spent : IsTrue full → IsMissing entries room
     pub has_best : HasBest machine ask entries best
@@ -82,7 +87,7 @@ parent_of machine entries goal parent = going goal (choices_by machine (choices_
 -- the opening of a list has come so far
 abbrev pub IsAtProgress : Machine → List Plan → Ask → Opening → StoreValue → Progress → Type 0
 IsAtProgress machine plans ask o s progress =
-    IsOpening machine plans ask (parent_of machine s.entries o.goal o.parent) o.bound (choices_before s.entries o.parent) (take o.stored s.entries) progress s.entries s.capacity s.full s.best
+    IsOpening machine plans ask (parent_of machine s.entries o.goal o.parent) o.bound s.limit (choices_before s.entries o.parent) (take o.stored s.entries) progress s.entries s.capacity s.full s.best
 
 -- the same list is being opened, and what was stored stays
 pub record IsSameOpening (o o' : Opening) (s s' : StoreValue) : Type 0 where

@@ -18,7 +18,7 @@ use Rattle.tp_search.specs.Opening.Progress.{nothing, up_to}
 use Rattle.tp_search.specs.Searching.{list_at, list_of_goal, next_list, next_node, opening_of}
 use Rattle.tp_search.specs.Stores.{HasBounds, StoreGrows, StoreValue}
 use Rattle.tp_search.specs.declared.searching.Outcome.{Outcome}
-use Rattle.tp_search.specs.declared.searching.Outcome.TheVariants.{Found, Never, Spent}
+use Rattle.tp_search.specs.declared.searching.Outcome.TheVariants.{Again, Found, Never, Spent}
 use Rattle.tp_search.specs.declared.taking.Next.{Next}
 use Rattle.tp_search.specs.declared.taking.Next.TheVariants.{Goal, Node}
 
@@ -63,3 +63,4 @@ module _ {N : Type 0} (reading : Reading N) where
   IsOutcome b b' machine ask nodes Never =
       ((plans' : List Plan) → ¬ IsAlternative machine b.plans ask plans') × IsBack reading b b' machine × FewListsOpen machine b.plans ask nodes
   IsOutcome b b' machine ask nodes (Spent bound) = IsSpent machine b.plans ask nodes bound × IsBack reading b b' machine
+  IsOutcome b b' machine ask nodes Again = IsBack reading b b' machine

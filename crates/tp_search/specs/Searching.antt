@@ -8,8 +8,8 @@ use Rattle.tp_schedule.specs.Spending.{IsStoredOrEmpty}
 use Rattle.tp_schedule.specs.declared.parts.Ask.{Ask}
 use Rattle.tp_schedule.specs.declared.parts.Plan.{Plan}
 use Rattle.tp_choices.specs.Frontiers.{HasStarts}
-use Rattle.tp_choices.specs.Searches.{IsSearched}
 use Rattle.tp_search.specs.Following.{IsStoredList}
+use Rattle.tp_search.specs.Limits.{IsMetLimit, IsSearchedTo}
 use Rattle.tp_search.specs.Stored.{HasBest, list_by, lists_by}
 use Rattle.tp_search.specs.Stores.{HasBounds, IsTaken, StoreValue}
 use Rattle.tp_search.specs.declared.goals.OpenGoal.{OpenGoal}
@@ -42,7 +42,8 @@ pub record IsOpenEntry (machine : Machine) (plans : List Plan) (ask : Ask) (e : 
 -- a search that has come to this bound: no list that waits has a smaller one, and no list that was opened has a greater one
 pub record IsSearching (machine : Machine) (plans : List Plan) (ask : Ask) (goals : List OpenGoal) (s : StoreValue) (bound : ℕ) : Type 0 where
   pub opened : List ChoiceList
-  pub searched : IsSearched machine plans ask (waiting_in machine goals s) opened
+  pub searched : IsSearchedTo machine plans ask s.limit (waiting_in machine goals s) opened
+  pub met : IsMetLimit machine plans ask s.limit
   pub goals_bound : All (λ g. IsBound machine plans ask (list_of_goal g) g.bound) goals
   pub goals_apart : AllPairs (λ a b. a.state ≢ b.state) goals
   pub goals_later : All (λ g. bound ≤ g.bound) goals

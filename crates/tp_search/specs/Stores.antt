@@ -7,9 +7,12 @@ use Rattle.tp_schedule.specs.declared.parts.Ask.{Ask}
 use Rattle.tp_pool.specs.Entries.{Entries, Entry, bound_of, choices_before}
 use Rattle.tp_pool.specs.Queues.{BucketQueue, Queued, nodes_of}
 use Rattle.tp_pool.specs.declared.choice.Choice.{Choice as Stored}
+use Rattle.tp_search.specs.Limits.{IsLimitKept}
+use Rattle.tp_search.specs.declared.store.Limit.{Limit}
+use Rattle.tp_search.specs.declared.store.Limit.TheVariants.{Unsought}
 
 -- the entries and how many there can be, the nodes that wait, the least bound and how many bounds there are, the node of the
--- best complete list, and whether an entry was refused
+-- best complete list, whether an entry was refused, and the limit
 pub record StoreValue : Type 0 where
   pub entries : List Entry
   pub capacity : ℕ
@@ -18,9 +21,10 @@ pub record StoreValue : Type 0 where
   pub width : ℕ
   pub best : Option ℕ
   pub full : Bool
+  pub limit : Limit
 
 abbrev pub empty_store : ℕ → ℕ → ℕ → StoreValue
-empty_store capacity base width = record { entries = []; capacity = capacity; waits = []; base = base; width = width; best = None; full = false }
+empty_store capacity base width = record { entries = []; capacity = capacity; waits = []; base = base; width = width; best = None; full = false; limit = Unsought }
 
 -- the bound is one of those that there can be
 abbrev pub IsInRange : StoreValue → ℕ → Type 0
@@ -30,8 +34,8 @@ IsInRange s bound = (s.base ≤ bound) × (bound < s.base + s.width)
 abbrev pub waits_in : ℕ → List Queued → List ℕ
 waits_in count queued = filter (λ node. list_any (nat_eq node) (nodes_of queued)) (range_with_len 0 count)
 
-abbrev pub store_of : Entries → BucketQueue → Option ℕ → Bool → StoreValue
-store_of pool queue best full = record { entries = pool.entries; capacity = pool.capacity; waits = waits_in (length pool.entries) queue.queued; base = queue.base; width = queue.width; best = best; full = full }
+abbrev pub store_of : Entries → BucketQueue → Option ℕ → Bool → Limit → StoreValue
+store_of pool queue best full limit = record { entries = pool.entries; capacity = pool.capacity; waits = waits_in (length pool.entries) queue.queued; base = queue.base; width = queue.width; best = best; full = full; limit = limit }
 
 -- what a store keeps true of its fields: a node in the queue is that of an entry, with its bound
 pub record IsStore (pool : Entries) (queue : BucketQueue) (best : Option ℕ) : Type 0 where
@@ -63,6 +67,7 @@ with_list parent choice bound complete s = record {
   width = s.width;
   best = better s.entries complete bound (length s.entries) s.best;
   full = s.full;
+  limit = s.limit;
 }
 
 abbrev pub after_keep : Option ℕ → Stored → ℕ → Bool → StoreValue → StoreValue
@@ -82,7 +87,7 @@ pub record IsTaken (s : StoreValue) (node : ℕ) (s' : StoreValue) : Type 0 wher
 abbrev pub HasSooner : StoreValue → ℕ → Type 0
 HasSooner s bound = (node : ℕ) × Contains s.waits node × (bound_of s.entries node < bound)
 
--- entries are added behind, and those that are added wait
+-- entries are added behind, and those that are added wait; the limit is kept, or found
 pub record StoreGrows (s s' : StoreValue) : Type 0 where
   pub new : List Entry
   pub entries : s'.entries ≡ s.entries ++ new
@@ -93,6 +98,7 @@ pub record StoreGrows (s s' : StoreValue) : Type 0 where
   pub come : (node : ℕ) → length s.entries ≤ node → node < length s'.entries → Contains s'.waits node
   pub only : (node : ℕ) → Contains s'.waits node → Contains s.waits node ⊎ ((length s.entries ≤ node) × (node < length s'.entries))
   pub as_many : length s'.waits + length s.entries ≡ length s.waits + length s'.entries
+  pub limit : IsLimitKept s.limit s'.limit
 
 -- the bounds of the store reach from the start floor at the latest to the horizon
 abbrev pub HasBounds : Machine → Ask → StoreValue → Type 0

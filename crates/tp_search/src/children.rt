@@ -1,25 +1,31 @@
 //! The children of a list on a board, each of which is tried, and kept where it is open.
-ghost use Rattle.std.specs.Prelude.{◌≡◌, suc, ◌+◌, ◌-◌, ◌<◌, ◌↔◌, [], ◌∷◌, length, take, IsFalse, IsTrue};
+ghost use Rattle.std.specs.Prelude.{◌≡◌, ℕ, suc, ◌+◌, ◌-◌, ◌<◌, ◌↔◌, [], ◌∷◌, length, take, IsFalse, IsSomeAnd, IsTrue};
 ghost use Rattle.tp_machine.specs.Using.{action_at};
 ghost use Rattle.tp_pool.specs.Entries.{choices_before};
 ghost use Rattle.tp_schedule.specs.Answers.{kept_of};
 ghost use Rattle.tp_schedule.specs.Holding.{holds_of_act};
 ghost use Rattle.tp_schedule.specs.Limits.{most_acts};
+ghost use Rattle.tp_placing.specs.Boards.{suffix_of};
+ghost use Rattle.tp_placing.specs.Calls.{CanPlace};
+ghost use Rattle.tp_placing.specs.Standing.{Stands};
+ghost use Rattle.tp_placing.specs.Walking.{EndsAfterUpTo};
 ghost use Rattle.tp_search.specs.Boards.{HasMarks, IsBack, IsLaid};
 ghost use Rattle.tp_search.specs.Children.{CarriesOpened, HasFound, IsNewChild};
 ghost use Rattle.tp_search.specs.Diving.{CanDive};
+ghost use Rattle.tp_search.specs.Limits.{IsLimitKept, IsMetLimit, IsWithin};
 ghost use Rattle.tp_search.specs.Opening.{IsAtProgress, IsFresh, IsSameOpening};
 ghost use Rattle.tp_search.specs.Opening.Progress.{nothing, through, up_to};
 ghost use Rattle.tp_search.specs.Problems.{IsPosed};
 ghost use Rattle.tp_search.specs.Stored.{choice_with, choices_by};
 ghost use Rattle.tp_search.specs.Stores.{HasBounds};
+ghost use Rattle.tp_search.specs.declared.store.Limit.TheVariants.{By};
 
-use crate::diving::dive;
+use crate::diving::{dive, ends_by};
 use crate::following::Laid;
 use crate::opening::Opening;
 use crate::problem::Problem;
 use crate::states::{Before, state_before};
-use crate::store::Store;
+use crate::store::{Limit, Store};
 use tp_base::{Late, Network, Tick, Undo};
 use tp_machine::{ActId, State};
 use tp_placing::{Board, Refused, marks_keep_boards};
@@ -96,6 +102,44 @@ fn dive_from<N: Network>(
     false
 }
 
+/// Seeks the limit by a dive from a child that is later than the list that is opened, where that list is stored and no dive failed
+/// at its bound. One dive is all: where it fails no limit is sought any more. Leaves the board as it was.
+fn seek_limit<N: Network>(
+    store: &mut Store,
+    opening: &Opening,
+    board: &mut Board<N>,
+    problem: Problem,
+    bound: Tick,
+    child: Laid,
+)
+    requires posed { IsPosed problem }
+    requires carries { CanDive N.reading board.old problem.machine.now
+        problem.ask.now child }
+    requires marks { HasMarks N.reading 1 board.old }
+    ensures store { store.new ≡ record store.old { limit = store.new.limit } }
+    ensures kept { IsLimitKept store.old.limit store.new.limit }
+    ensures met { IsMetLimit problem.entry.machine.now board.old.plans problem.entry.ask.now
+        store.old.limit → IsMetLimit problem.entry.machine.now board.old.plans
+        problem.entry.ask.now store.new.limit }
+    ensures within { IsWithin store.old.limit opening.now.bound
+        → IsWithin store.new.limit opening.now.bound }
+    ensures back { IsBack N.reading board.old board.new
+        problem.entry.machine.now }
+{
+    let Limit::Sought = store.limit() else {
+        return;
+    };
+    if bound <= opening.bound || !may_dive(opening) {
+        return;
+    }
+    let limit = if ends_by(board, problem, bound, child) {
+        Limit::By(bound)
+    } else {
+        Limit::Unsought
+    };
+    store.set_limit(limit);
+}
+
 /// Looks at a child that has all its places: it is an answer where it is complete with the parent's bound, or a dive from it
 /// comes to an answer, or else it is stored. Answers whether the board carries an answer then.
 fn end_child<N: Network>(
@@ -141,6 +185,7 @@ fn end_child<N: Network>(
     if dive_from(opening, board, problem, bound, laid) {
         return true;
     }
+    seek_limit(store, opening, board, problem, bound, laid);
     store.keep(
         opening.parent,
         child.choice,
@@ -151,9 +196,38 @@ fn end_child<N: Network>(
     false
 }
 
+/// Whether the board's list ends beyond the limit with its next hold at this place of its order, and so at each place before.
+/// Leaves the board as it was. A no may be wrong.
+fn is_all_beyond<N: Network>(
+    store: &Store,
+    board: &mut Board<N>,
+    problem: Problem,
+    hold: u32,
+    place: u32,
+) -> bool
+    requires stands { Stands N.reading board.old problem.machine.now }
+    requires next { IsSomeAnd (suffix_of board.old)
+        (λ x. CanPlace problem.machine.now board.old.plans x hold place) }
+    requires marks { HasMarks N.reading 1 board.old }
+    ensures beyond { IsTrue result → (limit : ℕ) × (store.now.limit ≡ By limit)
+        × IsSomeAnd (suffix_of board.old)
+        (EndsAfterUpTo problem.entry.machine.now board.old place limit) }
+    ensures back { IsBack N.reading board.old board.new
+        problem.entry.machine.now }
+{
+    let Limit::By(limit) = store.limit() else {
+        return false;
+    };
+    marks_keep_boards::<N>();
+    let mark = board.mark();
+    let crowded = board.is_crowded(problem.machine, hold, place, limit);
+    board.undo_to(mark);
+    crowded
+}
+
 /// Places the holds of the child's newest action, from this one on, in all ways, and keeps each child that is left, until one is
 /// an answer or leads to one, which the board carries then. Each hold is tried from the end of its order to the front, until no
-/// place before is left. Answers whether the board carries an answer.
+/// place before is left. Leaves out what ends beyond the limit. Answers whether the board carries an answer.
 fn place_rest<N: Network>(
     store: &mut Store,
     opening: &mut Opening,
@@ -186,6 +260,9 @@ fn place_rest<N: Network>(
     ensures back { IsFalse result → IsBack N.reading board.old board.new
         problem.entry.machine.now }
 {
+    if store.is_beyond(board.end_bound()) {
+        return false;
+    }
     let holds = &problem.machine.actions.get(child.act.0 as u32).holds;
     if hold == holds.len() {
         return end_child(store, opening, board, problem, child);
@@ -193,23 +270,31 @@ fn place_rest<N: Network>(
     marks_keep_boards::<N>();
     let resource = holds.get(hold).resource;
     let last = board.places(resource);
+    let mut tested = false;
     for place in (0..=last).rev() {
         let mark = board.mark();
         let mut placed = *child;
         placed.choice.places[hold as usize] = place;
-        match board.try_place(problem.machine, hold, place) {
+        let beyond = match board.try_place(problem.machine, hold, place) {
             Ok(()) => {
                 if place_rest(store, opening, board, problem, &placed, hold + 1) {
                     return true;
                 }
+                store.is_beyond(board.end_bound())
             }
-            Err(Refused::Here) => {}
+            Err(Refused::Here) => false,
             Err(Refused::UpToHere) => {
                 board.undo_to(mark);
                 return false;
             }
-        }
+        };
         board.undo_to(mark);
+        if beyond && !tested {
+            tested = true;
+            if is_all_beyond(store, board, problem, hold, place) {
+                return false;
+            }
+        }
     }
     false
 }

@@ -2,10 +2,14 @@
 ghost use Rattle.std.specs.Prelude.{◌≡◌, ◌+◌, ◌-◌, ◌<◌, ◌≤◌, length, IfSome, IsFalse, IsTrue, None};
 ghost use Rattle.tp_schedule.specs.Answers.{kept_of};
 ghost use Rattle.tp_schedule.specs.Limits.{most_acts};
-ghost use Rattle.tp_search.specs.Boards.{HasMarks, IsBack};
+ghost use Rattle.tp_schedule.specs.declared.parts.Origin.TheVariants.{Feeder};
+ghost use Rattle.tp_placing.specs.Standing.{Stands};
+ghost use Rattle.tp_search.specs.Boards.{HasMarks, IsBack, IsFurther};
 ghost use Rattle.tp_search.specs.Children.{HasFound};
 ghost use Rattle.tp_search.specs.Diving.{CanDive, IsDeeper, IsPlacing};
+ghost use Rattle.tp_search.specs.Limits.{IsMetLimit};
 ghost use Rattle.tp_search.specs.Problems.{IsPosed};
+ghost use Rattle.tp_search.specs.declared.store.Limit.TheVariants.{By};
 ghost use Rattle.tp_search.specs.declared.following.Laid.{Laid};
 
 use crate::following::Laid;
@@ -181,6 +185,42 @@ fn step_down<N: Network>(
 }
 
 /// Goes on from the board's list of a new copy, by the first choice that keeps the bound at each step, until the list is
+/// complete. The first step may have to be by the action that leads from nearest to a start. Answers whether it came to a complete
+/// list: the board carries it then, and else what it came to.
+fn go_down<N: Network>(
+    board: &mut Board<N>,
+    problem: Problem,
+    bound: Tick,
+    list: Laid,
+    by_nearest: bool,
+) -> bool
+    requires posed { IsPosed problem }
+    requires new_copy { problem.ask.now.origin ≡ Feeder }
+    requires carries { CanDive N.reading board.old problem.machine.now
+        problem.ask.now list }
+    ensures found { IsTrue result
+        → HasFound N.reading board.old board.new
+        problem.entry.machine.now problem.entry.ask.now bound }
+    ensures further { IsFurther N.reading board.old board.new }
+    ensures stands { Stands N.reading board.new problem.entry.machine.now }
+{
+    let mut reached = list;
+    'down: while let Some(next) = step_down(
+        board,
+        problem,
+        bound,
+        reached,
+        by_nearest && reached.count == list.count,
+    ) {
+        if is_start(problem.machine, problem.ask, next.first) {
+            return true;
+        }
+        reached = next;
+    }
+    false
+}
+
+/// Goes on from the board's list of a new copy, by the first choice that keeps the bound at each step, until the list is
 /// complete: the board carries it then. The first step may have to be by the action that leads from nearest to a start. Where it
 /// comes to no such list, the board is as before. There may be one all the same.
 pub(crate) fn dive<N: Network>(
@@ -205,19 +245,36 @@ pub(crate) fn dive<N: Network>(
     };
     marks_keep_boards::<N>();
     let mark = board.mark();
-    let mut reached = list;
-    'down: while let Some(next) = step_down(
-        board,
-        problem,
-        bound,
-        reached,
-        by_nearest && reached.count == list.count,
-    ) {
-        if is_start(problem.machine, problem.ask, next.first) {
-            return true;
-        }
-        reached = next;
+    if go_down(board, problem, bound, list, by_nearest) {
+        return true;
     }
     board.undo_to(mark);
     false
+}
+
+/// Whether a dive from the board's list comes to a complete one by the bound. Leaves the board as it was. There may be one all the
+/// same.
+pub(crate) fn ends_by<N: Network>(
+    board: &mut Board<N>,
+    problem: Problem,
+    bound: Tick,
+    list: Laid,
+) -> bool
+    requires posed { IsPosed problem }
+    requires carries { CanDive N.reading board.old problem.machine.now
+        problem.ask.now list }
+    requires marks { HasMarks N.reading 1 board.old }
+    ensures met { IsTrue result → IsMetLimit problem.entry.machine.now board.old.plans
+        problem.entry.ask.now (By bound) }
+    ensures back { IsBack N.reading board.old board.new
+        problem.entry.machine.now }
+{
+    let Origin::Feeder = problem.ask.origin else {
+        return false;
+    };
+    marks_keep_boards::<N>();
+    let mark = board.mark();
+    let found = go_down(board, problem, bound, list, false);
+    board.undo_to(mark);
+    found
 }

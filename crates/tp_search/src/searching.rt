@@ -1,5 +1,5 @@
 //! A best-first search: lists are opened by rising bound, until a complete one has the least bound of all that wait.
-ghost use Rattle.std.specs.Prelude.{ℕ, ◌≡◌, ◌<◌, ◌≤◌, length, None, Some, IfSome, IsFalse, IsTrue};
+ghost use Rattle.std.specs.Prelude.{ℕ, ◌≡◌, ◌≢◌, ◌<◌, ◌≤◌, length, None, Some, IfSome, IsFalse, IsTrue};
 ghost use Rattle.tp_machine.specs.declared.machine.Machine.{Machine};
 ghost use Rattle.tp_pool.specs.Entries.{bound_of, choices_before};
 ghost use Rattle.tp_placing.specs.Boards.{BoardValue};
@@ -8,10 +8,13 @@ ghost use Rattle.tp_search.specs.Boards.{HasMarks, IsBack, IsReady};
 ghost use Rattle.tp_search.specs.Children.{HasFound};
 ghost use Rattle.tp_search.specs.Following.{HasList};
 ghost use Rattle.tp_search.specs.Holding.{HoldsList, IsOver};
+ghost use Rattle.tp_search.specs.Limits.{HasNoLimit, IsLimitKept};
 ghost use Rattle.tp_search.specs.Outcomes.{CanOpen, IsAllOpened, IsOutcome};
 ghost use Rattle.tp_search.specs.Problems.{IsPosed};
 ghost use Rattle.tp_search.specs.Searching.{IsBestLater, IsSameSpace, IsSearching, next_bound, next_list, next_node, opening_of, still_to_take};
 ghost use Rattle.tp_search.specs.Stores.{StoreGrows};
+ghost use Rattle.tp_search.specs.declared.searching.Outcome.TheVariants.{Again, Spent};
+ghost use Rattle.tp_search.specs.declared.store.Limit.TheVariants.{Unsought};
 
 use crate::children::open_list;
 use crate::following::{Laid, follow};
@@ -19,7 +22,7 @@ use crate::goals::OpenGoal;
 use crate::holding::{HeldList, lay_next, mark_anew, take_off};
 use crate::opening::Opening;
 use crate::problem::Problem;
-use crate::store::Store;
+use crate::store::{Limit, Store};
 use crate::taking::{Next, take_next};
 use tp_base::{Mark, Network, Tick, Undo};
 use tp_machine::machine_law;
@@ -29,11 +32,13 @@ use tp_placing::{Board, marks_keep_boards};
 const DIVE_SPARE: u32 = 1_000;
 
 /// How a search ended. With `Found` the board carries an earliest plan since the mark `base`: it is to be committed, or undone
-/// to that mark. With `Spent` no plan ends before the bound, in ticks.
+/// to that mark. With `Spent` no plan ends before the bound, in ticks. With `Again` the store is full, and lists beyond a limit
+/// were left out: the search is to be made again without a limit.
 pub(crate) enum Outcome {
     Found { base: Mark },
     Never,
     Spent { bound: Tick },
+    Again,
 }
 
 /// The bound of the list that was taken.
@@ -132,6 +137,17 @@ fn open_next<N: Network>(
     found
 }
 
+/// How a search ends at this bound, where the store is full.
+fn full_outcome(store: &Store, bound: Tick) -> Outcome
+    ensures spent { HasNoLimit store.now.limit → result ≡ Spent bound }
+    ensures again { ¬ HasNoLimit store.now.limit → result ≡ Again }
+{
+    match store.limit() {
+        Limit::By(_) => Outcome::Again,
+        Limit::Unsought | Limit::Sought => Outcome::Spent { bound },
+    }
+}
+
 /// Takes a list and opens it. Answers how the search ends, if it does so; if it goes on, the board holds the list. The last
 /// bound at which a dive failed is noted.
 fn step<N: Network>(
@@ -177,6 +193,8 @@ fn step<N: Network>(
         problem.entry.machine.now problem.entry.ask.now store.new) }
     ensures less { result ≡ None → still_to_take goals.new.items store.new
         < still_to_take goals.old.items store.old }
+    ensures limit { IsLimitKept store.old.limit store.new.limit }
+    ensures again { result ≡ Some Again → ¬ HasNoLimit store.new.limit }
     ensures same { IsSameSpace goals.old goals.new store.old store.new }
 {
     machine_law(problem.machine);
@@ -197,7 +215,7 @@ fn step<N: Network>(
     }
     if store.is_full() {
         board.undo_to(reached.base);
-        return Some(Outcome::Spent { bound });
+        return Some(full_outcome(store, bound));
     }
     *held = Some(reached);
     None
@@ -230,6 +248,7 @@ pub(crate) fn search<N: Network>(
         problem.entry.ask.now begun
         → IsOutcome N.reading b board.new
         problem.entry.machine.now problem.entry.ask.now store.old.capacity result }
+    ensures whole { store.old.limit ≡ Unsought → result ≢ Again }
     ensures same { IsSameSpace goals.old goals.new store.old store.new }
 {
     let mut held = begun;

@@ -1,6 +1,7 @@
 //! The lists that a search stores, and those of them that wait to be opened.
 ghost use Rattle.std.specs.Prelude.{◌≡◌, ◌+◌, ◌<◌, ◌≤◌, ◌↔◌, [], length, None, IfOk, IfSome, IsTrue, Some};
 ghost use Rattle.tp_pool.specs.Entries.{IsParentOf, bound_of, choice_made, choices_of};
+ghost use Rattle.tp_search.specs.Limits.{IsWithin};
 ghost use Rattle.tp_search.specs.Stores.{HasSooner, IsInRange, IsTaken, after_keep, better, empty_store, is_sooner};
 
 use std::alloc::Global;
@@ -8,13 +9,23 @@ use std::marker::Model;
 use tp_base::{Full, Memory, Tick};
 use tp_pool::{Buckets, Choice, Pool};
 
-/// The lists that are stored, those of them that wait, the best complete one, and whether one was refused.
+/// What is known of how early an alternative ends: nothing, and no search for that is to be made; nothing yet; or that one ends
+/// by this tick.
+#[derive(Clone, Copy)]
+pub(crate) enum Limit {
+    Unsought,
+    Sought,
+    By(Tick),
+}
+
+/// The lists that are stored, those of them that wait, the best complete one, whether one was refused, and the limit.
 #[derive(Drop)]
 pub(crate) struct Store {
     pool: Pool,
     queue: Buckets,
     best: Option<u32>,
     full: bool,
+    limit: Limit,
 }
 
 impl Model for Store {
@@ -22,7 +33,7 @@ impl Model for Store {
 
     ghost Value = { StoreValue };
 
-    ghost view = { λ s. store_of s.pool s.queue s.best s.full };
+    ghost view = { λ s. store_of s.pool s.queue s.best s.full s.limit };
 
     ghost invariant = { λ s. IsStore s.pool s.queue s.best };
 }
@@ -37,17 +48,43 @@ impl Store {
             queue: Buckets::new(alloc, nodes, width)?,
             best: None,
             full: false,
+            limit: Limit::Unsought,
         })
     }
 
-    /// Leaves no list, for bounds from this base on.
+    /// Leaves no list, for bounds from this base on, and no limit.
     pub(crate) fn clear(&mut self, base: Tick)
         ensures { self.new ≡ empty_store self.old.capacity base self.old.width }
     {
+        self.limit = Limit::Unsought;
         self.pool.clear();
         self.queue.clear(base);
         self.best = None;
         self.full = false;
+    }
+
+    /// The limit.
+    pub(crate) fn limit(&self) -> Limit
+        ensures { result ≡ self.now.limit }
+    {
+        self.limit
+    }
+
+    /// From now on this is the limit.
+    pub(crate) fn set_limit(&mut self, limit: Limit)
+        ensures { self.new ≡ record self.old { limit = limit } }
+    {
+        self.limit = limit;
+    }
+
+    /// Whether a list with this bound is beyond the limit.
+    pub(crate) fn is_beyond(&self, bound: Tick) -> bool
+        ensures { IsTrue result → ¬ IsWithin self.now.limit bound }
+    {
+        match self.limit {
+            Limit::By(limit) => bound > limit,
+            Limit::Unsought | Limit::Sought => false,
+        }
     }
 
     pub(crate) fn len(&self) -> u32

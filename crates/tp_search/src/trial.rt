@@ -112,6 +112,7 @@ pub(crate) fn find_plan<'b, N: Network>(
         }
         Outcome::Never => Err(NoPlan::Never),
         Outcome::Spent { bound } => Err(NoPlan::Spent { bound }),
+        Outcome::Again => unreachable!(),
     }
 }
 

@@ -1,13 +1,17 @@
 //! The memory of a search, and the search for an ask on a loaded board.
-ghost use Rattle.std.specs.Prelude.{ℕ, ◌≡◌, ◌≤◌, [], pos, List, None, Some, IfErr, IfOk};
+ghost use Rattle.std.specs.Prelude.{ℕ, ◌≡◌, ◌≢◌, ◌≤◌, [], pos, List, None, Some, IfErr, IfOk};
 ghost use Rattle.tp_schedule.specs.declared.parts.Plan.{Plan};
 ghost use Rattle.tp_placing.specs.Boards.{past_of};
 ghost use Rattle.tp_placing.specs.Standing.{Stands};
 ghost use Rattle.tp_placing.specs.Writing.{IsLoadedFrom};
-ghost use Rattle.tp_routes.specs.Tables.{KeepsRooms};
+ghost use Rattle.tp_routes.specs.Index.{IsLeadIndex};
+ghost use Rattle.tp_routes.specs.Tables.{AreRooms, KeepsRooms};
 ghost use Rattle.tp_search.specs.Boards.{HasMarks, IsBack, IsReady};
+ghost use Rattle.tp_search.specs.Limits.{HasNoLimit};
 ghost use Rattle.tp_search.specs.Outcomes.{IsOutcome};
 ghost use Rattle.tp_search.specs.Workspaces.{IsFor, StaysFor};
+ghost use Rattle.tp_search.specs.declared.searching.Outcome.TheVariants.{Again};
+ghost use Rattle.tp_search.specs.declared.store.Limit.TheVariants.{Unsought};
 ghost use Rattle.tp_showing.specs.Closes.{IsLimit};
 ghost use Rattle.tp_showing.specs.Showing.{IsEarlyEnd};
 ghost use Rattle.tp_trees.specs.Short.{HasFewHops};
@@ -16,7 +20,7 @@ ghost use Rattle.tp_trees.specs.Trees.{IsBoundTree};
 use crate::goals::{OpenGoal, find_goals};
 use crate::problem::Problem;
 use crate::searching::{Outcome, search};
-use crate::store::Store;
+use crate::store::{Limit, Store};
 use std::alloc::Global;
 use std::marker::Model;
 use tp_base::{Memory, Network, Tick, Undo};
@@ -27,12 +31,18 @@ use tp_routes::Rooms;
 use tp_schedule::Ask;
 use tp_showing::{NotShown, show_limit};
 
+/// How many searches seek no limit after a dive for one failed: a machine on which such dives fail is not asked again at each
+/// sheet.
+const PAUSE: u32 = 16;
+
 /// All that a search takes memory for. It is for machines with the same numbers of locations and resources and the same
 /// window as the one that it was made for. It stores as many lists as it has nodes: the budget of an ask.
 pub struct Workspace {
     rooms: Rooms,
     store: Store,
     goals: Vec<OpenGoal>,
+    /// How many searches more seek no limit.
+    pause: u32,
 }
 
 // What becomes of its parts is proved here, once for all who let go of one.
@@ -42,6 +52,7 @@ impl Drop for Workspace {
             rooms: _,
             store: _,
             goals: _,
+            pause: _,
         } = self;
     }
 }
@@ -68,6 +79,7 @@ impl Workspace {
             rooms: Rooms::new(alloc, machine)?,
             store: Store::new(alloc, nodes, machine.window + 1)?,
             goals: Vec::with_capacity(alloc, locations as usize * 8)?,
+            pause: 0,
         })
     }
 
@@ -97,11 +109,64 @@ impl Workspace {
         requires marks { 8 ≤ N.reading.max_marks board.old.net }
         ensures outcome { IsOutcome N.reading board.old board.new
             machine.now ask.entry.now self.old.nodes result }
+        ensures whole { result ≢ Again }
         ensures stays { StaysFor machine.now self.old self.new }
         ensures rooms { KeepsRooms self.new.rooms machine.now }
     {
         self.rooms.renew(machine, ask);
+        let limit = self.first_limit();
+        let outcome = self.search_to(board, machine, ask, limit);
+        self.note_limit(limit);
+        match outcome {
+            Outcome::Again => self.search_to(board, machine, ask, Limit::Unsought),
+            ended => ended,
+        }
+    }
+
+    /// The limit with which the next search begins. None is sought while the workspace pauses.
+    fn first_limit(&mut self) -> Limit
+        ensures none { HasNoLimit result }
+        ensures same { self.new ≡ self.old }
+    {
+        if self.pause == 0 {
+            return Limit::Sought;
+        }
+        self.pause -= 1;
+        Limit::Unsought
+    }
+
+    /// Pauses, where the search began by seeking a limit and found none.
+    fn note_limit(&mut self, begun: Limit)
+        ensures { self.new ≡ self.old }
+    {
+        if let (Limit::Sought, Limit::Unsought) = (begun, self.store.limit()) {
+            self.pause = PAUSE;
+        }
+    }
+
+    /// Searches from the start on a board with no goal open, with this limit to begin with. The table of rooms is that of the ask.
+    fn search_to<N: Network>(
+        &mut self,
+        board: &mut Board<N>,
+        machine: &Machine,
+        ask: &Ask,
+        limit: Limit,
+    ) -> Outcome
+        requires made { IsFor self.old machine.now }
+        requires rooms { AreRooms machine.now ask.now self.old.rooms.sums }
+        requires leads { IsLeadIndex machine.now self.old.rooms.firsts self.old.rooms.nexts }
+        requires loaded { (plans : List Plan)
+            × IsLoadedFrom machine.now plans ask.now board.old.plans }
+        requires ready { IsReady N.reading board.old machine.now ask.now }
+        requires marks { HasMarks N.reading 7 board.old }
+        requires none { HasNoLimit limit }
+        ensures outcome { IsOutcome N.reading board.old board.new
+            machine.now ask.entry.now self.old.nodes result }
+        ensures whole { limit ≡ Unsought → result ≢ Again }
+        ensures same { self.new ≡ self.old }
+    {
         self.store.clear(ask.now);
+        self.store.set_limit(limit);
         let problem = Problem {
             rooms: &self.rooms,
             machine,

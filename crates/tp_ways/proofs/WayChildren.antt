@@ -1,5 +1,5 @@
 -- Which lists below a way do not open, and what the places of those that do are.
-use Rattle.std.proofs.Common.{◌≡◌, ℕ, ◌≤◌, Bool, false, cond, ◌==◌, List, [], ◌∷◌, ◌++◌, insert, length, refl, sym, arith, AllPairs, subst, Some}
+use Rattle.std.proofs.Common.{◌≡◌, ℕ, ◌≤◌, Bool, false, cond, ◌==◌, List, [], ◌∷◌, ◌++◌, insert, length, refl, sym, arith, AllPairs, subst, Some, IsFalse}
 use Rattle.std.specs.Prelude.{slice_get}
 use Rattle.tp_machine.specs.Modes.{gap_at}
 use Rattle.tp_machine.specs.Using.{action_at}
@@ -7,14 +7,15 @@ use Rattle.tp_machine.specs.declared.parts.HoldRule.{HoldRule}
 use Rattle.tp_machine.specs.declared.parts.State.{State}
 use Rattle.tp_machine.specs.declared.machine.Machine.{Machine}
 use Rattle.tp_schedule.proofs.Walks.{AreAllowed-head, walk_first}
-use Rattle.tp_schedule.specs.Choices.{AreWithin, Choice, IsOpen, acts_of, going, placed, put_places}
+use Rattle.tp_schedule.specs.Choices.{AreWithin, Choice, OpensTo, acts_of, going, placed, put_places}
 use Rattle.tp_schedule.specs.Holding.{holds_of_act}
 use Rattle.tp_schedule.specs.Routes.{Reaches, step_by}
 use Rattle.tp_schedule.specs.Spots.{IsApart, Slot, Spot, Ticks, slot_order}
+use Rattle.tp_schedule.specs.Spots.Spot.{own}
 use Rattle.tp_schedule.specs.declared.parts.Ask.{Ask}
 use Rattle.tp_schedule.specs.declared.parts.Plan.{Plan}
 use Rattle.tp_choices.proofs.Leaving.{AllPairs-put_places_out}
-use Rattle.tp_constraints.specs.Suffixes.{Suffix, SuffixTimes, list_of, with_stop}
+use Rattle.tp_constraints.specs.Suffixes.{Suffix, SuffixTimes, with_stop}
 use Rattle.tp_ways.proofs.WayLists.{first-only, open-times, opened-times}
 use Rattle.tp_ways.proofs.WaySteps.{HaveRooms-places, goal-way, order-next}
 use Rattle.tp_ways.specs.Ways.{IsWay}
@@ -53,23 +54,26 @@ fewer-times machine plans ask rooms stopped c choices rest t times = record {
   stopped = times.stopped;
 }
 
-module _ (machine : Machine) (plans : List Plan) (ask : Ask) (goal s : State) (rooms : List ℕ) (c : Choice) (choices : List Choice) (rest : List ℕ) where
-  abbrev old : Suffix
-  old = record { choices = c ∷ choices; rooms = rooms; stopped = false }
+module _ (machine : Machine) (plans : List Plan) (ask : Ask) (goal s : State) (x : Suffix) (c : Choice) (choices : List Choice) (rest : List ℕ) where
+  abbrev child : Choice
+  child = record { act = c.act; places = c.places ++ rest }
 
-  abbrev full : Suffix
-  full = record { choices = record { act = c.act; places = c.places ++ rest } ∷ choices; rooms = rooms; stopped = false }
-
-  child-times : IsWay machine plans ask goal s old → IsOpen machine plans ask (list_of goal full) → (t : Ticks) × SuffixTimes machine plans ask old t
-  child-times way o =
-      let rooms' = HaveRooms-places machine ask goal s c (c.places ++ rest) choices rooms way.rooms in
-      (o.1.ticks, fewer-times machine plans ask rooms false c choices rest o.1.ticks (opened-times machine plans ask goal s full rooms' way.allowed o.0 o.1))
+  -- a list with further places of the newest choice opens to times of the first ones
+  pub child-times : IsWay machine plans ask goal s x → IsFalse x.stopped → x.choices ≡ c ∷ choices → (end : ℕ) → OpensTo machine plans ask (going goal (child ∷ choices)) end
+      → (t : Ticks) × SuffixTimes machine plans ask x t × (t (own 0) ≡ end)
+  child-times way going' is end o =
+      let old : Suffix = record { choices = c ∷ choices; rooms = x.rooms; stopped = false } in
+      let full : Suffix = record { choices = child ∷ choices; rooms = x.rooms; stopped = false } in
+      let same : x ≡ old = (λ i. record { choices = is i; rooms = x.rooms; stopped = going' i }) in
+      let way' = subst (λ y. IsWay machine plans ask goal s y) same way in
+      let rooms = HaveRooms-places machine ask goal s c (c.places ++ rest) choices x.rooms way'.rooms in
+      let times = fewer-times machine plans ask x.rooms false c choices rest o.ticks (opened-times machine plans ask goal s full rooms way'.allowed end o) in
+      (o.ticks, subst (λ y. SuffixTimes machine plans ask y o.ticks) (sym same) times, o.ends)
 
 pub child-late : ChildLate
 child-late machine plans ask goal s x c choices rest way going is late o =
-    let same : x ≡ old machine plans ask goal s x.rooms c choices rest = (λ i. record { choices = is i; rooms = x.rooms; stopped = going i }) in
-    let times = child-times machine plans ask goal s x.rooms c choices rest (subst (λ y. IsWay machine plans ask goal s y) same way) o in
-    late times.0 (subst (λ y. SuffixTimes machine plans ask y times.0) (sym same) times.1)
+    let times = child-times machine plans ask goal s x c choices rest way going is o.0 o.1 in
+    late times.0 times.1
 
 pub stop-late : StopLate
 stop-late machine plans ask goal state x way late o = late o.1.ticks (opened-times machine plans ask goal state (with_stop x) way.rooms way.allowed o.0 o.1)

@@ -4,17 +4,27 @@ use Rattle.tp_machine.specs.Using.{action_at}
 use Rattle.tp_schedule.specs.Holding.{holds_of_act}
 use Rattle.tp_placing.specs.Boards.{suffix_of}
 use Rattle.tp_placing.specs.Calls.{CanPlace}
-use Rattle.tp_search.specs.Boards.{HasMarks, IsLaid}
+use Rattle.tp_search.specs.Boards.{HasMarks, IsBack, IsLaid}
 use Rattle.tp_search.specs.Children.{IsNewChild}
 use Rattle.tp_search.specs.Opening.{IsAtProgress}
 use Rattle.tp_search.specs.Opening.Progress.{through, up_to}
 use Rattle.tp_search.specs.Stored.{choices_by}
 use Rattle.tp_pool.specs.Entries.{choices_before}
-use Rattle.tp_search.proofs.BoardSteps.{back-itself, mark-known, since-step}
+use Rattle.tp_search.proofs.BoardSteps.{back-itself, back-trans, mark-known, since-step}
 use Rattle.tp_search.proofs.OpeningSame.{before-same, bounds-same, fresh-same, same-itself, same-trans}
-use Rattle.tp_search.proofs.PlaceSteps.{back-now, begin-now, found-now, holds-four, refused-since, shut-now, end-now, marked-stands, may-place, next-now, next-places, placed-laid, placed-marks, placed-progress, resource-known, same-now, tried-late, tried-placed, trying, IsTried, IsTrying, tried-as}
+use Rattle.tp_search.proofs.PlaceSteps.{back-now, begin-now, beyond-now, crowded-now, found-now, holds-four, refused-since, shut-now, end-now, marked-stands, may-again, may-place, next-now, next-places, placed-laid, placed-marks, placed-open, placed-progress, resource-known, same-now, tried-late, tried-placed, trying, IsTried, IsTrying, tried-as}
 use Rattle.tp_search.proofs.children.+place_rest.Goals as goal
-use Rattle.tp_search.proofs.children.+place_rest.Goals.{After-mark-mark, After-undo_to-in-loop-place, Then-hold-len, in-Ok+else-place_rest, in-Err-Here}
+use Rattle.tp_search.proofs.children.+place_rest.Goals.{After-mark-mark, After-undo_to-in-loop-place, Joined-beyond, Then-hold-len, else-beyond, in-Ok+else-place_rest, in-Err-Here, then-beyond+then-not-tested+else-is_all_beyond}
+
+-- where the least end is beyond the limit, no place is tried
+pub returns-then-is_beyond-clause-progress : goal.returns-then-is_beyond-clause-progress
+returns-then-is_beyond-clause-progress g t c none =
+    let r = c.requires in
+    beyond-now g.N.Network.reading c.args.problem.machine.now c.args.problem.ask.now c.args.child.now.first c.args.child.now.act c.args.opening.now c.args.store.now c.args.board.now (take c.args.hold c.args.child.now.choice.places) c.end_bound.result
+    r.laid r.fresh (c.end_bound.ensures c.args.problem.machine.now r.laid.stands) (c.is_beyond.ensures c.if-is_beyond.true) r.progress
+
+pub returns-then-is_beyond-clause-same : goal.returns-then-is_beyond-clause-same
+returns-then-is_beyond-clause-same g t c = same-itself c.args.opening.now c.args.store.now
 
 -- where each hold has its place
 all-placed : (g : _) (t : _) (c : Then-hold-len g t) → c.args.hold ≡ length (holds_of_act (action_at c.args.problem.machine.now c.args.child.now.act.0))
@@ -172,51 +182,120 @@ tried-here g t c tried =
           (take c.args.hold c.args.child.now.choice.places) c.loop-place.place c.get-2.result.now tried c.try_place.new.self p.past p.loaded p.marks w.in-Err-Here.ensures.back) w.in-Err-Here.ensures.late)
     ]
 
+-- the board is back before the test, and after it
+back-here : (g : _) (t : _) (c : After-undo_to-in-loop-place g t) → IsTrying g.N.Network.reading g.N.Undo.untouched c.args.problem.machine.now c.args.problem.ask.now c.args.child.now.first c.args.child.now.act c.args.opening.now c.loop-place.opening c.args.store.now c.loop-place.store c.args.board.now c.loop-place.board c.mark-mark.new.self c.mark-mark.result.0 (take c.args.hold c.args.child.now.choice.places) c.loop-place.place c.get-2.result.now
+    → IsBack g.N.Network.reading c.args.board.now c.undo_to-in-loop-place.new.self c.args.problem.machine.now
+back-here g t c tried =
+    let u = c.undo_to-in-loop-place.ensures in
+    back-now g.N.Network.reading g.N.Undo.untouched c.args.problem.machine.now c.args.problem.ask.now c.args.child.now.first c.args.child.now.act c.args.opening.now c.loop-place.opening c.args.store.now c.loop-place.store c.args.board.now c.loop-place.board c.mark-mark.new.self c.mark-mark.result.0
+    (take c.args.hold c.args.child.now.choice.places) c.loop-place.place c.get-2.result.now tried c.match-try_place.board c.undo_to-in-loop-place.new.self c.match-try_place.opening c.match-try_place.store (tried-here g t c tried)
+    (record { content_then = u.content; past_less = u.past; untouched_same = u.untouched; room_same = u.capacity })
+
+back-after : (g : _) (t : _) (c : Joined-beyond g t) → IsBack g.N.Network.reading c.args.board.now c.undo_to-in-loop-place.new.self c.args.problem.machine.now
+    → IsBack g.N.Network.reading c.args.board.now c.if-beyond.board c.args.problem.machine.now
+back-after g t c back = elim c.if-beyond.branch [
+  | then-beyond+then-not-tested+else-is_all_beyond w ↦
+      subst (λ b. IsBack g.N.Network.reading c.args.board.now b c.args.problem.machine.now) (sym w.board-is)
+      (back-trans g.N.Network.reading c.args.board.now c.undo_to-in-loop-place.new.self w.is_all_beyond.new.board c.args.problem.machine.now back w.is_all_beyond.ensures.back)
+  | else-beyond w ↦ subst (λ b. IsBack g.N.Network.reading c.args.board.now b c.args.problem.machine.now) (sym w.board-is) back
+]
+
 pub loop-place-preserved : goal.loop-place-preserved
 loop-place-preserved g t c =
     let known = ap length (ap holds_of_act c.get.ensures) in
-    let count : length (take c.args.hold c.args.child.now.choice.places) ≡ c.args.hold = length-take-le c.args.hold c.args.child.now.choice.places (omega arith) in
-    let tried = trying-here g t (goal.at.loop-place-preserved g t c).After-mark-mark in
-    let after = tried-here g t (goal.at.loop-place-preserved g t c).After-undo_to-in-loop-place tried in
-    let u = c.undo_to-in-loop-place.ensures in
-    let back = back-now g.N.Network.reading g.N.Undo.untouched c.args.problem.machine.now c.args.problem.ask.now c.args.child.now.first c.args.child.now.act c.args.opening.now c.loop-place.opening c.args.store.now c.loop-place.store c.args.board.now c.loop-place.board c.mark-mark.new.self c.mark-mark.result.0
-    (take c.args.hold c.args.child.now.choice.places) c.loop-place.place c.get-2.result.now tried c.match-try_place.board c.undo_to-in-loop-place.new.self c.match-try_place.opening c.match-try_place.store after
-    (record { content_then = u.content; past_less = u.past; untouched_same = u.untouched; room_same = u.capacity }) in
+    let k = goal.at.loop-place-preserved g t c in
+    let tried = trying-here g t k.After-mark-mark in
+    let after = tried-here g t k.After-undo_to-in-loop-place tried in
+    let back = back-after g t k.Joined-beyond (back-here g t k.After-undo_to-in-loop-place tried) in
     record {
       progress = next-now g.N.Network.reading g.N.Undo.untouched c.args.problem.machine.now c.args.problem.ask.now c.args.child.now.first c.args.child.now.act c.args.opening.now c.loop-place.opening c.args.store.now c.loop-place.store c.args.board.now c.loop-place.board c.mark-mark.new.self c.mark-mark.result.0
-          (take c.args.hold c.args.child.now.choice.places) c.loop-place.place c.get-2.result.now tried c.match-try_place.board c.undo_to-in-loop-place.new.self c.match-try_place.opening c.match-try_place.store after
+          (take c.args.hold c.args.child.now.choice.places) c.loop-place.place c.get-2.result.now tried c.match-try_place.board c.if-beyond.board c.match-try_place.opening c.match-try_place.store after
           (c.loop-place.place - 1) (omega arith) back;
       same = same-now g.N.Network.reading g.N.Undo.untouched c.args.problem.machine.now c.args.problem.ask.now c.args.child.now.first c.args.child.now.act c.args.opening.now c.loop-place.opening c.args.store.now c.loop-place.store c.args.board.now c.loop-place.board c.mark-mark.new.self c.mark-mark.result.0
-          (take c.args.hold c.args.child.now.choice.places) c.loop-place.place c.get-2.result.now tried c.match-try_place.board c.undo_to-in-loop-place.new.self c.match-try_place.opening c.match-try_place.store after;
+          (take c.args.hold c.args.child.now.choice.places) c.loop-place.place c.get-2.result.now tried c.match-try_place.board c.if-beyond.board c.match-try_place.opening c.match-try_place.store after;
       back = back;
     }
 
-pub returns-after-try_place-clause-progress : goal.returns-after-try_place-clause-progress
-returns-after-try_place-clause-progress g t c none =
+pub returns-after-beyond-clause-progress : goal.returns-after-beyond-clause-progress
+returns-after-beyond-clause-progress g t c none =
     let known = ap length (ap holds_of_act c.get.ensures) in
     let count : length (take c.args.hold c.args.child.now.choice.places) ≡ c.args.hold = length-take-le c.args.hold c.args.child.now.choice.places (omega arith) in
-    let tried = trying-here g t (goal.at.returns-after-try_place-clause-progress g t c).After-mark-mark in
-    let after = tried-here g t (goal.at.returns-after-try_place-clause-progress g t c).After-undo_to-in-loop-place tried in
+    let k = goal.at.returns-after-beyond-clause-progress g t c in
+    let tried = trying-here g t k.After-mark-mark in
     end-now g.N.Network.reading g.N.Undo.untouched c.args.problem.machine.now c.args.problem.ask.now c.args.child.now.first c.args.child.now.act c.args.opening.now c.loop-place.opening c.args.store.now c.loop-place.store c.args.board.now c.loop-place.board c.mark-mark.new.self c.mark-mark.result.0
-    (take c.args.hold c.args.child.now.choice.places) c.loop-place.place c.get-2.result.now tried c.match-try_place.board c.undo_to-in-loop-place.new.self c.match-try_place.opening c.match-try_place.store after (omega arith) (omega arith)
+    (take c.args.hold c.args.child.now.choice.places) c.loop-place.place c.get-2.result.now tried c.match-try_place.board c.if-beyond.board c.match-try_place.opening c.match-try_place.store (tried-here g t k.After-undo_to-in-loop-place tried) (omega arith) (omega arith)
 
-pub returns-after-try_place-clause-same : goal.returns-after-try_place-clause-same
-returns-after-try_place-clause-same g t c =
-    let known = ap length (ap holds_of_act c.get.ensures) in
-    let tried = trying-here g t (goal.at.returns-after-try_place-clause-same g t c).After-mark-mark in
-    let after = tried-here g t (goal.at.returns-after-try_place-clause-same g t c).After-undo_to-in-loop-place tried in
+pub returns-after-beyond-clause-same : goal.returns-after-beyond-clause-same
+returns-after-beyond-clause-same g t c =
+    let k = goal.at.returns-after-beyond-clause-same g t c in
+    let tried = trying-here g t k.After-mark-mark in
     same-now g.N.Network.reading g.N.Undo.untouched c.args.problem.machine.now c.args.problem.ask.now c.args.child.now.first c.args.child.now.act c.args.opening.now c.loop-place.opening c.args.store.now c.loop-place.store c.args.board.now c.loop-place.board c.mark-mark.new.self c.mark-mark.result.0
-    (take c.args.hold c.args.child.now.choice.places) c.loop-place.place c.get-2.result.now tried c.match-try_place.board c.undo_to-in-loop-place.new.self c.match-try_place.opening c.match-try_place.store after
+    (take c.args.hold c.args.child.now.choice.places) c.loop-place.place c.get-2.result.now tried c.match-try_place.board c.if-beyond.board c.match-try_place.opening c.match-try_place.store (tried-here g t k.After-undo_to-in-loop-place tried)
 
-pub returns-after-try_place-clause-back : goal.returns-after-try_place-clause-back
-returns-after-try_place-clause-back g t c none =
+pub returns-after-beyond-clause-back : goal.returns-after-beyond-clause-back
+returns-after-beyond-clause-back g t c none =
+    let k = goal.at.returns-after-beyond-clause-back g t c in
+    back-after g t k.Joined-beyond (back-here g t k.After-undo_to-in-loop-place (trying-here g t k.After-mark-mark))
+
+-- the least end behind the place is read
+pub end_bound-requires-in-Ok-clause-stands : goal.end_bound-requires-in-Ok-clause-stands
+end_bound-requires-in-Ok-clause-stands g t c = (c.args.problem.machine.now, (c.place_rest.ensures.back c.if-place_rest.false).stands c.in-Ok.ensures.stands)
+
+pub end_bound-requires-in-Ok-clause-open : goal.end_bound-requires-in-Ok-clause-open
+end_bound-requires-in-Ok-clause-open g t c =
+    let tried = trying-here g t (goal.at.end_bound-requires-in-Ok-clause-open g t c).After-mark-mark in
+    placed-open g.N.Network.reading g.N.Undo.untouched c.args.problem.machine.now c.args.problem.ask.now c.args.child.now.first c.args.child.now.act c.args.opening.now c.loop-place.opening c.args.store.now c.loop-place.store c.args.board.now c.loop-place.board c.mark-mark.new.self c.mark-mark.result.0
+    (take c.args.hold c.args.child.now.choice.places) c.loop-place.place c.get-2.result.now tried c.try_place.new.self c.place_rest.new.board c.in-Ok.ensures.suffix (c.place_rest.ensures.back c.if-place_rest.false)
+
+-- and all places up to it are tested
+pub is_all_beyond-requires-clause-stands : goal.is_all_beyond-requires-clause-stands
+is_all_beyond-requires-clause-stands g t c =
+    let k = goal.at.is_all_beyond-requires-clause-stands g t c in
+    (back-here g t k.After-undo_to-in-loop-place (trying-here g t k.After-mark-mark)).stands c.requires.laid.stands
+
+pub is_all_beyond-requires-clause-next : goal.is_all_beyond-requires-clause-next
+is_all_beyond-requires-clause-next g t c =
     let known = ap length (ap holds_of_act c.get.ensures) in
-    let tried = trying-here g t (goal.at.returns-after-try_place-clause-back g t c).After-mark-mark in
-    let after = tried-here g t (goal.at.returns-after-try_place-clause-back g t c).After-undo_to-in-loop-place tried in
-    let u = c.undo_to-in-loop-place.ensures in
-    back-now g.N.Network.reading g.N.Undo.untouched c.args.problem.machine.now c.args.problem.ask.now c.args.child.now.first c.args.child.now.act c.args.opening.now c.loop-place.opening c.args.store.now c.loop-place.store c.args.board.now c.loop-place.board c.mark-mark.new.self c.mark-mark.result.0
-    (take c.args.hold c.args.child.now.choice.places) c.loop-place.place c.get-2.result.now tried c.match-try_place.board c.undo_to-in-loop-place.new.self c.match-try_place.opening c.match-try_place.store after
-    (record { content_then = u.content; past_less = u.past; untouched_same = u.untouched; room_same = u.capacity })
+    let count : length (take c.args.hold c.args.child.now.choice.places) ≡ c.args.hold = length-take-le c.args.hold c.args.child.now.choice.places (omega arith) in
+    let k = goal.at.is_all_beyond-requires-clause-next g t c in
+    let tried = trying-here g t k.After-mark-mark in
+    let b = c.undo_to-in-loop-place.new.self in
+    subst (λ n. IsSomeAnd (suffix_of b) (λ x. CanPlace c.args.problem.machine.now b.plans x n c.loop-place.place)) count
+    (may-again g.N.Network.reading g.N.Undo.untouched c.args.problem.machine.now c.args.problem.ask.now c.args.child.now.first c.args.child.now.act c.args.opening.now c.loop-place.opening c.args.store.now c.loop-place.store c.args.board.now c.loop-place.board c.mark-mark.new.self c.mark-mark.result.0
+    (take c.args.hold c.args.child.now.choice.places) c.loop-place.place c.get-2.result.now tried c.match-try_place.board b c.match-try_place.opening c.match-try_place.store (tried-here g t k.After-undo_to-in-loop-place tried) (back-here g t k.After-undo_to-in-loop-place tried))
+
+pub is_all_beyond-requires-clause-marks : goal.is_all_beyond-requires-clause-marks
+is_all_beyond-requires-clause-marks g t c =
+    let known = ap length (ap holds_of_act c.get.ensures) in
+    let four = holds-four c.args.problem.machine.now c.args.child.now.act.0 in
+    let k = goal.at.is_all_beyond-requires-clause-marks g t c in
+    let back = back-here g t k.After-undo_to-in-loop-place (trying-here g t k.After-mark-mark) in
+    let marks = c.requires.marks in
+    omega (arith, ap length back.same_past, back.marks)
+
+pub returns-then-is_all_beyond-clause-progress : goal.returns-then-is_all_beyond-clause-progress
+returns-then-is_all_beyond-clause-progress g t c none =
+    let known = ap length (ap holds_of_act c.get.ensures) in
+    let count : length (take c.args.hold c.args.child.now.choice.places) ≡ c.args.hold = length-take-le c.args.hold c.args.child.now.choice.places (omega arith) in
+    let k = goal.at.returns-then-is_all_beyond-clause-progress g t c in
+    let tried = trying-here g t k.After-mark-mark in
+    let beyond = c.is_all_beyond.ensures.beyond c.if-is_all_beyond.true in
+    crowded-now g.N.Network.reading g.N.Undo.untouched c.args.problem.machine.now c.args.problem.ask.now c.args.child.now.first c.args.child.now.act c.args.opening.now c.loop-place.opening c.args.store.now c.loop-place.store c.args.board.now c.loop-place.board c.mark-mark.new.self c.mark-mark.result.0
+    (take c.args.hold c.args.child.now.choice.places) c.loop-place.place c.get-2.result.now tried c.match-try_place.board c.undo_to-in-loop-place.new.self c.match-try_place.opening c.match-try_place.store (tried-here g t k.After-undo_to-in-loop-place tried)
+    beyond.0 (back-here g t k.After-undo_to-in-loop-place tried) beyond.1 beyond.2 (omega arith)
+
+pub returns-then-is_all_beyond-clause-same : goal.returns-then-is_all_beyond-clause-same
+returns-then-is_all_beyond-clause-same g t c =
+    let k = goal.at.returns-then-is_all_beyond-clause-same g t c in
+    let tried = trying-here g t k.After-mark-mark in
+    same-now g.N.Network.reading g.N.Undo.untouched c.args.problem.machine.now c.args.problem.ask.now c.args.child.now.first c.args.child.now.act c.args.opening.now c.loop-place.opening c.args.store.now c.loop-place.store c.args.board.now c.loop-place.board c.mark-mark.new.self c.mark-mark.result.0
+    (take c.args.hold c.args.child.now.choice.places) c.loop-place.place c.get-2.result.now tried c.match-try_place.board c.undo_to-in-loop-place.new.self c.match-try_place.opening c.match-try_place.store (tried-here g t k.After-undo_to-in-loop-place tried)
+
+pub returns-then-is_all_beyond-clause-back : goal.returns-then-is_all_beyond-clause-back
+returns-then-is_all_beyond-clause-back g t c none =
+    let k = goal.at.returns-then-is_all_beyond-clause-back g t c in
+    back-trans g.N.Network.reading c.args.board.now c.undo_to-in-loop-place.new.self c.is_all_beyond.new.board c.args.problem.machine.now
+    (back-here g t k.After-undo_to-in-loop-place (trying-here g t k.After-mark-mark)) c.is_all_beyond.ensures.back
 
 pub returns-in-Err-UpToHere-clause-progress : goal.returns-in-Err-UpToHere-clause-progress
 returns-in-Err-UpToHere-clause-progress g t c none =

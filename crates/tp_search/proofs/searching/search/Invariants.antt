@@ -2,6 +2,7 @@ use Rattle.std.proofs.Common.{ℕ, IfSome}
 use Rattle.tp_placing.specs.Boards.{BoardValue}
 use Rattle.tp_search.specs.Boards.{IsReady}
 use Rattle.tp_search.specs.Holding.{HoldsList, IsOver}
+use Rattle.tp_search.specs.Limits.{IsLimitKept}
 use Rattle.tp_search.specs.Searching.{IsSameSpace, IsSearching, still_to_take}
 use Rattle.tp_search.proofs.searching.search.Given as goal
 
@@ -13,6 +14,7 @@ invariant-steps g l = record {
   holds : IfSome l.held (HoldsList g.N.Network.reading l.board l.problem.machine.now l.problem.ask.now l.store);
   searching : (bound : ℕ) × IsSearching l.problem.machine.now l.board.plans l.problem.ask.now l.goals.items l.store bound;
   same : IsSameSpace l.fn.goals l.goals l.fn.store l.store;
+  limit : IsLimitKept l.fn.store.limit l.store.limit;
 }
 
 abbrev pub decreases-steps : goal.decreases-steps

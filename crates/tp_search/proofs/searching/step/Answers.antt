@@ -1,4 +1,5 @@
 use Rattle.std.proofs.Common.{◌≡◌, ◌≤◌, List, false, None, sym, ap, subst, ◌∙◌}
+use Rattle.std.proofs.lemmas.Option.{same_Some}
 use Rattle.tp_machine.proofs.MachineFacts.{is_machine}
 use Rattle.tp_choices.proofs.FewLists.{ended_has_few}
 use Rattle.tp_choices.proofs.Frontier.{frontier_ends}
@@ -12,6 +13,8 @@ use Rattle.tp_schedule.specs.declared.parts.Plan.{Plan}
 use Rattle.tp_search.specs.Boards.{IsReady}
 use Rattle.tp_search.specs.Following.{HasList}
 use Rattle.tp_search.specs.Holding.{IsLaidSince, IsOver}
+use Rattle.tp_search.specs.Limits.{IsLimitKept}
+use Rattle.tp_search.specs.declared.searching.Outcome.TheVariants.{Again}
 use Rattle.tp_search.specs.Outcomes.{CanOpen, IsAllOpened}
 use Rattle.tp_search.specs.Searching.{IsBestLater, list_at, next_bound, next_list}
 use Rattle.tp_search.specs.Stores.{StoreValue}
@@ -19,9 +22,10 @@ use Rattle.tp_search.proofs.HoldChildren.{holds-taken}
 use Rattle.tp_search.proofs.HoldFacts.{marks-some, over-can_ask, over-legal, over-plans, since-answer, since-back, since-found, since-known, since-marks, since-more, since-undone}
 use Rattle.tp_search.proofs.OpenSteps.{list-back}
 use Rattle.tp_search.proofs.SearchEnds.{IsBestList, searching-few, searching-never}
-use Rattle.tp_search.proofs.StepFacts.{best-list, can-open, known, next-there, space-then, step-full, step-holds, step-less, step-none_before, step-on}
+use Rattle.tp_search.proofs.StepFacts.{best-list, can-open, known, next-there, space-then, full-ends, again-limited, step-full, step-holds, step-less, step-none_before, step-on}
+use Rattle.tp_search.proofs.StoreFacts.{limit-itself}
 use Rattle.tp_search.proofs.searching.step.Goals as goal
-use Rattle.tp_search.proofs.searching.step.Goals.{After-open_next, In-Some-best_by, In_default-best_by}
+use Rattle.tp_search.proofs.searching.step.Goals.{After-open_next, In-Some, In-Some-best_by, In_default-best_by}
 
 -- a complete list that is stored is no later than the one that was taken
 best : (g : _) (c : In-Some-best_by g) → IsBestList c.args.problem.machine.now c.args.board.now.plans c.args.problem.ask.now c.take_next.new.store c.in-Some-best_by.best
@@ -136,13 +140,40 @@ undo_to-requires g c =
 pub returns-then-is_full-clause-ends : goal.returns-then-is_full-clause-ends
 returns-then-is_full-clause-ends g c b ready over =
     let k = goal.at.returns-then-is_full-clause-ends g c in
-    let spent = step-full c.args.problem.machine.now c.args.board.now.plans c.args.problem.ask.now c.args.goals.now.items c.args.store.now c.requires.searching.0 c.requires.searching.1 c.take_next.new.goals.items c.take_next.new.store c.in-Some.next c.in-Some.ensures.next (is_machine c.args.problem.machine.now) c.requires.goal (later g k.In_default-best_by) c.open_next.new.store (opened g k.After-open_next c.if-open_next.false) (sym c.is_full.ensures.full ∙ c.if-is_full.true) (over-legal g.N.Network.reading c.requires.over.0 c.args.board.now c.args.problem.machine.now c.args.problem.ask.now c.args.held.now c.requires.over.1 c.requires.over.3)
+    let same = over-plans g.N.Network.reading b c.args.board.now c.args.problem.machine.now c.args.problem.ask.now c.args.held.now over in
+    let u = c.undo_to.ensures in
+    full-ends g.N.Network.reading b c.undo_to.new.self c.args.problem.machine.now c.args.problem.ask.now c.args.store.now.capacity c.bound_of-bound.result c.open_next.new.store.limit c.full_outcome.result c.full_outcome.ensures.spent c.full_outcome.ensures.again
+    (λ none.
+    let spent = step-full c.args.problem.machine.now c.args.board.now.plans c.args.problem.ask.now c.args.goals.now.items c.args.store.now c.requires.searching.0 c.requires.searching.1 c.take_next.new.goals.items c.take_next.new.store c.in-Some.next c.in-Some.ensures.next (is_machine c.args.problem.machine.now) c.requires.goal (later g k.In_default-best_by) c.open_next.new.store (opened g k.After-open_next c.if-open_next.false) (sym c.is_full.ensures.full ∙ c.if-is_full.true) none (over-legal g.N.Network.reading c.requires.over.0 c.args.board.now c.args.problem.machine.now c.args.problem.ask.now c.args.held.now c.requires.over.1 c.requires.over.3)
     (over-can_ask g.N.Network.reading c.requires.over.0 c.args.board.now c.args.problem.machine.now c.args.problem.ask.now c.args.held.now c.requires.over.1 c.requires.over.3) in
     let at = subst (IsSpent c.args.problem.machine.now c.args.board.now.plans c.args.problem.ask.now c.args.store.now.capacity) (sym c.bound_of-bound.ensures) spent in
-    let u = c.undo_to.ensures in (
-      subst (λ ps. IsSpent c.args.problem.machine.now ps c.args.problem.ask.now c.args.store.now.capacity c.bound_of-bound.result) (over-plans g.N.Network.reading b c.args.board.now c.args.problem.machine.now c.args.problem.ask.now c.args.held.now over) at,
-      since-undone g.N.Network.reading g.N.Undo.untouched c.marks_keep_boards.ensures.back b c.open_next.new.board c.undo_to.new.self c.args.problem.machine.now c.args.problem.ask.now c.lay_next-reached.result.base.0 c.lay_next-reached.result.root (since g k.After-open_next c.if-open_next.false b ready over) (record { content_then = u.content; past_less = u.past; untouched_same = u.untouched; room_same = u.capacity }),
-    )
+    subst (λ ps. IsSpent c.args.problem.machine.now ps c.args.problem.ask.now c.args.store.now.capacity c.bound_of-bound.result) same at)
+    (since-undone g.N.Network.reading g.N.Undo.untouched c.marks_keep_boards.ensures.back b c.open_next.new.board c.undo_to.new.self c.args.problem.machine.now c.args.problem.ask.now c.lay_next-reached.result.base.0 c.lay_next-reached.result.root (since g k.After-open_next c.if-open_next.false b ready over) (record { content_then = u.content; past_less = u.past; untouched_same = u.untouched; room_same = u.capacity }))
+
+pub returns-then-is_full-clause-again : goal.returns-then-is_full-clause-again
+returns-then-is_full-clause-again g c is = again-limited c.bound_of-bound.result c.open_next.new.store.limit c.full_outcome.result c.full_outcome.ensures.spent (same_Some c.full_outcome.result Again is)
+
+-- taking a list keeps the limit, and opening it keeps it or finds it
+taken-limit : (g : _) (c : In-Some g) → c.take_next.new.store.limit ≡ c.args.store.now.limit
+taken-limit g c = ap (λ (t : StoreValue). t.limit) (known c.args.problem.machine.now c.args.board.now.plans c.args.problem.ask.now c.args.goals.now.items c.args.store.now c.requires.searching.0 c.requires.searching.1 c.take_next.new.goals.items c.take_next.new.store c.in-Some.next c.in-Some.ensures.next).same
+
+opened-limit : (g : _) (c : After-open_next g) → IsLimitKept c.args.store.now.limit c.open_next.new.store.limit
+opened-limit g c = subst (λ l. IsLimitKept l c.open_next.new.store.limit) (taken-limit g (goal.at.After-open_next g c).In-Some) c.open_next.ensures.grows.limit
+
+pub returns-in_default-clause-limit : goal.returns-in_default-clause-limit
+returns-in_default-clause-limit g c = subst (λ (s : StoreValue). IsLimitKept c.args.store.now.limit s.limit) (sym (c.take_next.ensures.stays c.in_default.is)) (limit-itself c.args.store.now.limit)
+
+pub returns-in-Some-best_by-clause-limit : goal.returns-in-Some-best_by-clause-limit
+returns-in-Some-best_by-clause-limit g c = subst (IsLimitKept c.args.store.now.limit) (sym (taken-limit g (goal.at.returns-in-Some-best_by-clause-limit g c).In-Some)) (limit-itself c.args.store.now.limit)
+
+pub returns-then-open_next-clause-limit : goal.returns-then-open_next-clause-limit
+returns-then-open_next-clause-limit g c = opened-limit g (goal.at.returns-then-open_next-clause-limit g c).After-open_next
+
+pub returns-then-is_full-clause-limit : goal.returns-then-is_full-clause-limit
+returns-then-is_full-clause-limit g c = opened-limit g (goal.at.returns-then-is_full-clause-limit g c).After-open_next
+
+pub returns-clause-limit : goal.returns-clause-limit
+returns-clause-limit g c = opened-limit g (goal.at.returns-clause-limit g c).After-open_next
 
 pub returns-then-is_full-clause-same : goal.returns-then-is_full-clause-same
 returns-then-is_full-clause-same g c =

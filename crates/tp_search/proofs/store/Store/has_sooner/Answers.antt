@@ -9,6 +9,6 @@ pub returns-clause-sooner : goal.returns-clause-sooner
 returns-clause-sooner c =
     let a = c.self.inside in
     subst (λ s. IsTrue c.match-first.result ↔ HasSooner s c.args.bound) c.self.view_is (elim c.match-first.branch [
-      | in-Some w ↦ sooner-here a.pool a.queue a.best a.full c.self.invariant c.match-first.result w.in-Some.node w.bound.result c.args.bound w.in-Some.ensures.first w.bound.ensures w.result-is
-      | in-None w ↦ ((λ sooner. absurd (false≢true (sym w.result-is ∙ sooner))), (λ sooner. absurd (sooner-none a.pool a.queue a.best a.full c.self.invariant c.args.bound (c.first.ensures.none.0 w.in-None.is) sooner)))
+      | in-Some w ↦ sooner-here a.pool a.queue a.best a.full a.limit c.self.invariant c.match-first.result w.in-Some.node w.bound.result c.args.bound w.in-Some.ensures.first w.bound.ensures w.result-is
+      | in-None w ↦ ((λ sooner. absurd (false≢true (sym w.result-is ∙ sooner))), (λ sooner. absurd (sooner-none a.pool a.queue a.best a.full a.limit c.self.invariant c.args.bound (c.first.ensures.none.0 w.in-None.is) sooner)))
     ])

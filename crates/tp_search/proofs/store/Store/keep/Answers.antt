@@ -34,5 +34,5 @@ pub returns-in-Ok : goal.returns-in-Ok
 returns-in-Ok c =
     let a = c.self.inside in
     let e = entry_of a.pool.entries c.args.parent c.args.choice c.args.bound in
-    more-view a.pool c.add.new.self a.queue c.put_in_turn.new.self a.best c.best_with-best.result a.full c.args.self.now c.args.parent c.args.choice c.args.bound c.args.complete c.self.view_is c.in-Ok.ensures.ok (space c)
+    more-view a.pool c.add.new.self a.queue c.put_in_turn.new.self a.best c.best_with-best.result a.full a.limit c.args.self.now c.args.parent c.args.choice c.args.bound c.args.complete c.self.view_is c.in-Ok.ensures.ok (space c)
     (more-waits a.pool c.add.new.self a.queue c.put_in_turn.new.self a.best c.best_with-best.result e c.self.invariant c.in-Ok.ensures.ok (moved c)) c.put_in_turn.ensures.base c.put_in_turn.ensures.width (best-is c)

@@ -8,7 +8,7 @@ pub invariant_of-self-2 : goal.invariant_of-self-2
 invariant_of-self-2 c =
     let a = c.self.inside in
     let e = c.in_ok-node.ensures in
-    taken-kept a.pool a.queue a.best a.full c.self.invariant c.in_ok-node.node c.take.new.self e.taken e.out e.base e.width e.nodes
+    taken-kept a.pool a.queue a.best a.full a.limit c.self.invariant c.in_ok-node.node c.take.new.self e.taken e.out e.base e.width e.nodes
 
 pub returns-in_err-node-clause-none : goal.returns-in_err-node-clause-none
 returns-in_err-node-clause-none c =
@@ -28,5 +28,5 @@ pub returns-clause-taken : goal.returns-clause-taken
 returns-clause-taken c =
     let a = c.self.inside in
     let e = c.in_ok-node.ensures in
-    subst (λ s. IsTaken s c.in_ok-node.node (store_of a.pool c.take.new.self a.best a.full)) c.self.view_is
-    (taken-out a.pool a.queue a.best a.full c.self.invariant c.in_ok-node.node c.take.new.self e.taken e.out e.base e.width e.nodes)
+    subst (λ s. IsTaken s c.in_ok-node.node (store_of a.pool c.take.new.self a.best a.full a.limit)) c.self.view_is
+    (taken-out a.pool a.queue a.best a.full a.limit c.self.invariant c.in_ok-node.node c.take.new.self e.taken e.out e.base e.width e.nodes)

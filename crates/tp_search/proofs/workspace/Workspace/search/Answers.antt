@@ -1,53 +1,43 @@
-use Rattle.std.proofs.Common.{◌≡◌, ◌+◌, ap, sym, subst, ◌∙◌, arith, length}
+use Rattle.std.proofs.Common.{length, ap, sym, subst, ◌∙◌, arith}
 use Rattle.tp_placing.specs.Boards.{suffix_after}
+use Rattle.tp_placing.specs.Writing.{IsLoadedFrom}
+use Rattle.tp_search.specs.Boards.{IsBack}
 use Rattle.tp_search.specs.Outcomes.{IsOutcome}
-use Rattle.tp_search.specs.Searching.{IsSearching}
-use Rattle.tp_search.specs.Stores.{StoreValue}
 use Rattle.tp_search.specs.Workspaces.{WorkspaceValue}
-use Rattle.tp_search.proofs.AskedFacts.{asked-known, begins-with}
-use Rattle.tp_search.proofs.HoldFacts.{over-plans}
+use Rattle.tp_search.proofs.AskedFacts.{asked-known}
+use Rattle.tp_search.proofs.BoardSteps.{ready-back}
+use Rattle.tp_search.proofs.OutcomeFacts.{outcome-back}
 use Rattle.tp_search.proofs.workspace.Workspace.search.Goals as goal
+use Rattle.tp_search.proofs.workspace.Workspace.search.Goals.{In-Again}
 
 pub renew-requires-clause-origin : goal.renew-requires-clause-origin
 renew-requires-clause-origin g c = asked-known c.args.machine.now c.requires.loaded.0 c.args.ask.now c.requires.loaded.1.can_ask.asked
 
-pub find_goals-begun-requires-clause-posed : goal.find_goals-begun-requires-clause-posed
-find_goals-begun-requires-clause-posed g c = record {
-  table = c.renew.ensures.made;
-  rooms = c.renew.ensures.rooms;
-  leads = c.renew.ensures.leads;
-  origin = asked-known c.args.machine.now c.requires.loaded.0 c.args.ask.now c.requires.loaded.1.can_ask.asked;
-}
+pub search_to-outcome-requires-clause-ready : goal.search_to-outcome-requires-clause-ready
+search_to-outcome-requires-clause-ready g c = record { stands = c.requires.stands; asked = c.requires.asked; closed = ap suffix_after c.requires.closed }
 
-pub find_goals-begun-requires-clause-ready : goal.find_goals-begun-requires-clause-ready
-find_goals-begun-requires-clause-ready g c = record { stands = c.requires.stands; asked = c.requires.asked; closed = ap suffix_after c.requires.closed }
+pub search_to-outcome-requires-clause-marks : goal.search_to-outcome-requires-clause-marks
+search_to-outcome-requires-clause-marks g c = omega (arith, c.requires.marks, ap length c.requires.unmarked)
 
-pub search-requires-clause-posed : goal.search-requires-clause-posed
-search-requires-clause-posed g c = record {
-  table = c.renew.ensures.made;
-  rooms = c.renew.ensures.rooms;
-  leads = c.renew.ensures.leads;
-  origin = asked-known c.args.machine.now c.requires.loaded.0 c.args.ask.now c.requires.loaded.1.can_ask.asked;
-}
+-- where the first search came to no end, the board is back
+back : (g : _) (c : In-Again g) → IsBack g.N.Network.reading c.args.board.now c.search_to-outcome.new.board c.args.machine.now
+back g c = c.in-Again.ensures.outcome
 
-pub search-requires-clause-over : goal.search-requires-clause-over
-search-requires-clause-over g c = (c.args.board.now, record { stands = c.requires.stands; asked = c.requires.asked; closed = ap suffix_after c.requires.closed }, omega (arith, c.requires.marks, ap length c.requires.unmarked), c.find_goals-begun.ensures.over)
+pub search_to-requires-clause-loaded : goal.search_to-requires-clause-loaded
+search_to-requires-clause-loaded g c =
+    let r = c.requires.loaded in
+    (r.0, subst (IsLoadedFrom c.args.machine.now r.0 c.args.ask.now) (sym (back g (goal.at.search_to-requires-clause-loaded g c).In-Again).loaded.plans) r.1)
 
-pub search-requires-clause-holds : goal.search-requires-clause-holds
-search-requires-clause-holds g c = c.find_goals-begun.ensures.holds c.clear.new.self (ap (λ (s : StoreValue). s.entries) c.clear.ensures)
+pub search_to-requires-clause-ready : goal.search_to-requires-clause-ready
+search_to-requires-clause-ready g c =
+    ready-back g.N.Network.reading c.args.board.now c.search_to-outcome.new.board c.args.machine.now c.args.ask.now (back g (goal.at.search_to-requires-clause-ready g c).In-Again)
+    (record { stands = c.requires.stands; asked = c.requires.asked; closed = ap suffix_after c.requires.closed })
 
-pub search-requires-clause-searching : goal.search-requires-clause-searching
-search-requires-clause-searching g c =
-    let a = c.self.inside in
-    let window = ap (λ (w : WorkspaceValue). w.rooms.window) c.self.view_is in
-    let wide : a.store.width ≡ c.args.machine.now.window + 1 = omega (arith, c.self.invariant.wide, window, c.requires.made.window) in (
-      0,
-      subst (λ ps. IsSearching c.args.machine.now ps c.args.ask.now c.find_goals-begun.new.goals.items c.clear.new.self 0) (sym (over-plans g.N.Network.reading c.args.board.now c.find_goals-begun.new.board c.args.machine.now c.args.ask.now c.find_goals-begun.result c.find_goals-begun.ensures.over))
-          (begins-with c.args.machine.now c.args.board.now.plans c.args.ask.now c.find_goals-begun.new.goals.items c.clear.new.self a.store.capacity a.store.width c.requires.loaded.0 c.find_goals-begun.ensures.goals c.clear.ensures wide c.requires.loaded.1.can_ask.has_time),
-    )
+pub search_to-requires-clause-marks : goal.search_to-requires-clause-marks
+search_to-requires-clause-marks g c = (let b = back g (goal.at.search_to-requires-clause-marks g c).In-Again in omega (arith, c.requires.marks, ap length c.requires.unmarked, ap length b.same_past, b.marks))
 
-pub returns-clause-outcome : goal.returns-clause-outcome
-returns-clause-outcome g c =
-    let nodes = ap (λ (s : StoreValue). s.capacity) c.clear.ensures ∙ ap (λ (w : WorkspaceValue). w.nodes) c.self.view_is in
-    subst (λ n. IsOutcome g.N.Network.reading c.args.board.now c.search.new.board c.args.machine.now c.args.ask.now n c.search.result) nodes
-    (c.search.ensures.outcome c.args.board.now (record { stands = c.requires.stands; asked = c.requires.asked; closed = ap suffix_after c.requires.closed }) c.find_goals-begun.ensures.over)
+pub returns-in-Again-clause-outcome : goal.returns-in-Again-clause-outcome
+returns-in-Again-clause-outcome g c =
+    let same = ap (λ (w : WorkspaceValue). w.nodes) (c.note_limit.ensures ∙ c.search_to-outcome.ensures.same ∙ c.first_limit-limit.ensures.same) ∙ ap (λ (w : WorkspaceValue). w.nodes) c.self.view_is in
+    outcome-back g.N.Network.reading c.args.board.now c.search_to-outcome.new.board c.search_to.new.board c.args.machine.now c.args.ask.now (back g (goal.at.returns-in-Again-clause-outcome g c).In-Again) c.args.self.now.nodes c.search_to.result
+    (subst (λ n. IsOutcome g.N.Network.reading c.search_to-outcome.new.board c.search_to.new.board c.args.machine.now c.args.ask.now n c.search_to.result) same c.search_to.ensures.outcome)
