@@ -5,7 +5,7 @@ use Rattle.tp_machine.specs.declared.machine.Machine.{Machine}
 use Rattle.tp_schedule.specs.declared.parts.Ask.{Ask}
 use Rattle.tp_schedule.specs.declared.parts.Plan.{Plan}
 use Rattle.tp_placing.specs.Boards.{BoardContent, BoardValue}
-use Rattle.tp_placing.specs.Writing.{IsLoadedFrom}
+use Rattle.tp_placing.specs.Writing.{IsHeldFrom}
 use Rattle.tp_search.specs.Boards.{IsBack}
 use Rattle.rows_engines.specs.Trying.{IsReady}
 
@@ -13,7 +13,7 @@ module _ {N : Type 0} (reading : Reading N) where
   pub ready-back : (b b' : BoardValue N) (machine : Machine) (plans : List Plan) (ask : Ask) → IsBack reading b b' machine
       → IsReady reading b machine plans ask → IsReady reading b' machine plans ask
   ready-back b b' machine plans ask back ready = record {
-    loaded = subst (IsLoadedFrom machine plans ask) (sym back.loaded.plans) ready.loaded;
+    held = subst (IsHeldFrom machine plans ask) (sym back.loaded.plans) ready.held;
     stands = back.stands ready.stands;
     asked = back.loaded.ask ∙ ready.asked;
     closed = ap (λ (x : BoardContent). x.steps) back.same_content ∙ ready.closed;

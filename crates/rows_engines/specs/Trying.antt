@@ -6,11 +6,11 @@ use Rattle.tp_schedule.specs.declared.parts.Ask.{Ask}
 use Rattle.tp_schedule.specs.declared.parts.Plan.{Plan}
 use Rattle.tp_placing.specs.Boards.{BoardValue, past_of}
 use Rattle.tp_placing.specs.Standing.{Stands}
-use Rattle.tp_placing.specs.Writing.{IsLoadedFrom}
+use Rattle.tp_placing.specs.Writing.{IsHeldFrom}
 
--- the board was loaded for the ask on these plans, no goal is open and no mark in force, and a search has its marks
+-- the board holds the live ones of these plans for the ask, no goal is open and no mark in force, and a search has its marks
 pub record IsReady {N : Type 0} (reading : Reading N) (b : BoardValue N) (machine : Machine) (plans : List Plan) (ask : Ask) : Type 0 where
-  pub loaded : IsLoadedFrom machine plans ask b.plans
+  pub held : IsHeldFrom machine plans ask b.plans
   pub stands : Stands reading b machine
   pub asked : b.ask ≡ Some ask
   pub closed : b.steps ≡ []

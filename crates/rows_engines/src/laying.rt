@@ -3,7 +3,7 @@ ghost use Rattle.std.specs.Prelude.{◌≡◌, ◌+◌, ◌<◌, ◌≤◌, [], 
 ghost use Rattle.tp_placing.specs.Boards.{past_of, suffix_of};
 ghost use Rattle.tp_placing.specs.Calls.{CanGoOn, IsSameLoad};
 ghost use Rattle.tp_placing.specs.Standing.{IsMadeFor, Stands};
-ghost use Rattle.tp_placing.specs.Writing.{IsLoadedFrom};
+ghost use Rattle.tp_placing.specs.Writing.{IsHeldFrom};
 ghost use Rattle.tp_routes.specs.Tables.{AreRooms, IsKnownOrigin, IsMadeFor as IsTableFor};
 ghost use Rattle.tp_schedule.specs.Answers.{kept_of};
 ghost use Rattle.tp_schedule.specs.Planning.{CanAsk, CanPlanOn, IsOpenGoal};
@@ -71,8 +71,8 @@ pub(crate) fn begin<N: Network>(
     ensures rooms { OnOk result (AreRooms machine.now ask.entry.now rooms.new.sums) }
     ensures laid { IfOk result
         (λ goal. IsLaid N.reading board.new machine.now ask.entry.now goal 0) }
-    ensures loaded { OnOk result
-        (IsLoadedFrom machine.now schedule.now.plans ask.entry.now board.new.plans) }
+    ensures held { OnOk result
+        (IsHeldFrom machine.now schedule.now.plans ask.entry.now board.new.plans) }
 {
     let Goal::Tray(tray) = ask.goal else {
         return Err(Fail::from("the goal is no tray"));

@@ -188,6 +188,7 @@ module _ {N : Type 0} (net : N → Net) (b : BoardValue N) (m : Machine) (ask : 
       let f : s.first.0 ≡ length (table_of b.plans) + suc count = (let k = ap (λ (p : PointId). p.0) first_is in omega arith) in
       subst (λ k. IsAtWith m b.plans ask (Some (with_action act room o.x)) (b.steps ++ s ∷ []) (Extended k) b.orders.orders b.held) (sym low) (record {
         net = board-net action_net;
+        says = tt;
         solved = subst (λ k. HasLeast (Extended k)) low solved;
         orders = orders-open;
         at_hand = at-hand-push (length (table_of b.plans)) (Some (with_action act room o.x)) b.steps s (newest_is, f);

@@ -21,10 +21,12 @@ use Rattle.tp_constraints.specs.Hops.HopKind.{line}
 use Rattle.tp_constraints.specs.Laws.{IsLoadable, no_own}
 use Rattle.tp_constraints.specs.Numbers.{IsEdgeOf, IsTable, gap_by, spot_at, spot_in, table_of}
 use Rattle.tp_keeping.specs.Adding.{IsLineBefore, with_plan}
+use Rattle.tp_keeping.specs.Moments.{SayGaps}
 use Rattle.tp_keeping.specs.Puts.{put_gaps, put_hops, with_puts}
 use Rattle.tp_keeping.proofs.PlanFacts.{loaded-less, plan_order}
 use Rattle.tp_keeping.proofs.PlanHopFacts.{plan_hops}
 use Rattle.tp_keeping.proofs.PlanNets.{plan_net, spot-more}
+use Rattle.tp_keeping.proofs.SayFacts.{plan_says}
 use Rattle.tp_timelines.specs.Orders.{order_on, total}
 use Rattle.tp_placing.specs.Causes.{ArePlain, IsNamedHop, IsSafe, hop_by}
 use Rattle.tp_placing.specs.Growing.{AreHops, HasPut, IsLineEnd, KeepEdges, own_edges, slot_by}
@@ -185,6 +187,7 @@ module _ (machine : Machine) (now : ℕ) (plans : List Plan) (p : Plan) (can : C
           net = plan_net machine now plans p put.puts own.0 n net es before can.loadable old.net put.within same own.1
               (ap (λ (k : Net). k.lows) is ∙ lows-all machine now plans p can before n lines held firsts causes old last at-last m wider)
               (ap (λ (k : Net). k.caps) is ∙ caps-all machine now plans p can before n lines held firsts causes old last at-last m wider) edges edges-of gaps;
+          says = subst (SayGaps machine all) (sym edges) (plan_says machine now plans p put.puts own.0 n.edges es before can.loadable old.says put.within same own.1 edges-of gaps);
           solved = least;
           hops = λ ask. named ask net.edges edges;
           safe = subst (All (IsSafe 0)) (sym edges) (All-append (IsSafe 0) n.edges es old.safe hops.safe);

@@ -132,6 +132,7 @@ module _ {N : Type 0} (reading : Reading N) (b : BoardValue N) (m : Machine) (as
       let last = s.last in
       subst (λ k. IsAtWith m b.plans ask (Some (with_goal room)) (b.steps ++ step ∷ []) (Extended k) b.orders.orders b.held) (sym low) (record {
         net = board-net;
+        says = tt;
         solved = subst (λ k. HasLeast (Extended k)) low solved;
         orders = λ q known. subst (λ h. AreSlots points h (order_on b.orders.orders q) (slot_order m b.plans q)) (append-nil b.held) (slots-grown (table_of b.plans) (own 0 ∷ []) b.held [] (order_on b.orders.orders q) (slot_order m b.plans q) (at-none.orders q known));
         at_hand = at-hand-push (length (table_of b.plans)) (Some (with_goal room)) b.steps step (newest_is, (let f = ap (λ (p : PointId). p.0) first_is in omega arith));

@@ -28,6 +28,7 @@ pub mod WritePoints
 pub mod WriteLive
 pub mod WriteWhole
 pub mod WriteJoined
+pub mod WriteHeld
 pub mod WriteCommit
 pub mod WriteReady
 pub mod LoadEdges
@@ -65,6 +66,14 @@ pub mod AddFacts
 pub mod AddedParts
 pub mod AddedNet
 pub mod FollowFacts
+pub mod FollowedPlans
+pub mod HeldPlans
+pub mod MovedPlans
+pub mod MovedBounds
+pub mod MovedNet
+pub mod FreshPlans
+pub mod FitPlans
+pub mod JoinFacts
 pub mod BehindFacts
 pub mod NewestFacts
 pub mod NextHold

@@ -15,7 +15,7 @@ ticks-push : (f : ℕ → ℕ) (i n : ℕ) → ticks_from f i (suc n) ≡ ticks_
 ticks-push f i zero = let e : i + 0 ≡ i = omega arith in ap (λ k. f k ∷ []) (sym e)
 ticks-push f i (suc n) = let e : suc i + n ≡ i + suc n = omega arith in ap (λ xs. f i ∷ xs) (ticks-push f (suc i) n ∙ ap (λ k. ticks_from f (suc i) n ++ f k ∷ []) e)
 
-ticks-one : (f : ℕ → ℕ) (n m x : ℕ) → m ≡ n + 1 → x ≡ f n → ticks_from f 0 m ≡ ticks_from f 0 n ++ x ∷ []
+pub ticks-one : (f : ℕ → ℕ) (n m x : ℕ) → m ≡ n + 1 → x ≡ f n → ticks_from f 0 m ≡ ticks_from f 0 n ++ x ∷ []
 ticks-one f n m x e read =
     let s : m ≡ suc n = omega arith in
     let z : 0 + n ≡ n = omega arith in

@@ -52,6 +52,7 @@ loaded-again reading b machine ask stands closed =
     let holds = at.few_holds in
     record {
       net = at.net;
+      says = at.says;
       solved = at.solved;
       hops = λ other. hops-again machine ask.now b.plans ask other b.causes (reading.net b.net) at.net caused.hops;
       safe = caused.safe;

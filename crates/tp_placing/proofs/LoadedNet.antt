@@ -20,6 +20,7 @@ use Rattle.tp_constraints.proofs.Hopping.{load_hops}
 use Rattle.tp_constraints.proofs.Lists.{index-map, get-there, contains-get}
 use Rattle.tp_constraints.proofs.PointTable.{table_law}
 use Rattle.tp_constraints.proofs.ScheduleGaps.{gaps_law}
+use Rattle.tp_keeping.proofs.SayFacts.{exact_says}
 use Rattle.tp_timelines.specs.Orders.{Orders, order_on, total}
 use Rattle.tp_schedule.specs.declared.parts.Ask.{Ask}
 use Rattle.tp_placing.specs.Causes.{ArePlain, IsNamedHop, IsSafe, hop_by, most_causes, step_causes}
@@ -169,11 +170,12 @@ module _ (machine : Machine) (now : ℕ) (plans : List Plan) (can : CanLoad mach
   loaded n firsts all same solved at caused =
       let edges : n.edges ≡ all_edges machine plans lines.orders held = ap (λ (m : Net). m.edges) same ∙ ap (λ es. es ++ all_edges machine plans lines.orders held) none-added in
       let mapped : map (gap_by (table_of plans)) n.edges ≡ plans_gaps machine plans = ap (map (gap_by (table_of plans))) edges ∙ gaps in
+      let of : All (IsEdgeOf (table_of plans)) n.edges = subst (λ es. All (IsEdgeOf (table_of plans)) es) (sym edges) (All-weaker (IsKnown (length (table_of plans))) (IsEdgeOf (table_of plans)) (λ e c. (c.from, c.to)) (all_edges machine plans lines.orders held) hops.can) in
+      let there : All (Contains (map (gap_by (table_of plans)) n.edges)) (plans_gaps machine plans) = subst (λ gs. All (Contains gs) (plans_gaps machine plans)) (sym mapped) (All-contains_itself (plans_gaps machine plans)) in
+      let only : All (Contains (plans_gaps machine plans)) (map (gap_by (table_of plans)) n.edges) = subst (λ gs. All (Contains (plans_gaps machine plans)) gs) (sym mapped) (All-contains_itself (plans_gaps machine plans)) in
       subst (IsLoaded machine now plans n lines.orders held firsts) (sym caused) (record {
-        net = load_net machine now (λ _. false) plans (table_of plans) n can.loadable spots (ap (λ (m : Net). m.lows) same ∙ lows) (ap (λ (m : Net). m.caps) same ∙ caps)
-            (subst (λ es. All (IsEdgeOf (table_of plans)) es) (sym edges) (All-weaker (IsKnown (length (table_of plans))) (IsEdgeOf (table_of plans)) (λ e c. (c.from, c.to)) (all_edges machine plans lines.orders held) hops.can))
-            (subst (λ gs. All (Contains gs) (plans_gaps machine plans)) (sym mapped) (All-contains_itself (plans_gaps machine plans)))
-            (subst (λ gs. All (Contains (plans_gaps machine plans)) gs) (sym mapped) (All-contains_itself (plans_gaps machine plans)));
+        net = load_net machine now (λ _. false) plans (table_of plans) n can.loadable spots (ap (λ (m : Net). m.lows) same ∙ lows) (ap (λ (m : Net). m.caps) same ∙ caps) of there only;
+        says = exact_says machine plans n.edges of there only;
         solved = solved;
         hops = λ ask. subst (All (IsNamedHop machine plans ask no_choices causes)) (sym edges) (named ask);
         safe = subst (All (IsSafe 0)) (sym edges) hops.safe;

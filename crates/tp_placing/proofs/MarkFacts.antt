@@ -6,7 +6,7 @@ use Rattle.tp_base.proofs.SliceFacts.{slice_get_end, slice_get_take}
 use Rattle.tp_base.specs.declared.edges.PointId.{PointId}
 use Rattle.tp_base.specs.Net.{Net}
 use Rattle.tp_machine.specs.declared.machine.Machine.{Machine}
-use Rattle.tp_schedule.specs.Answers.{IsAsked, kept_of}
+use Rattle.tp_schedule.specs.Answers.{IsAsked, KeepsHorizon, kept_of}
 use Rattle.tp_schedule.specs.Spots.Spot.{own}
 use Rattle.tp_schedule.specs.declared.parts.Ask.{Ask}
 use Rattle.tp_schedule.specs.declared.parts.Plan.{Plan}
@@ -61,6 +61,7 @@ module _ {N A : Type 0} (reading : Reading N) (untouched : N → A) where
         firsts = subst (AreFirsts 0 b.plans) firsts (subst (λ ps. AreFirsts 0 ps a.firsts) plans s.firsts);
         few_points = subst (λ (p : PointId). p.0 + 65 ≤ 16641 + kept_of ask) last s.few_points;
         few_plans = subst (λ (ps : List Plan). length ps ≤ 256) plans s.few_plans;
+        on_time = subst (KeepsHorizon m ask.now) plans s.on_time;
         now = subst (λ ps. IsAt m ps ask b.steps (reading.net b.net) b.orders.orders b.held) plans here.0;
         before = λ x c. subst (λ ps. IsAt m ps ask x.steps x.net x.orders x.held) plans (before x c).0;
         plain = subst ArePlain causes s.plain;

@@ -151,6 +151,7 @@ module _ (m : Machine) (plans : List Plan) (ask : Ask) (c : Choice) (choices : L
         let fh = at.few_holds in
         record {
           net = place-net place_net in';
+          says = tt;
           solved = solved;
           orders = orders-after;
           at_hand = at-hand-push (length (table_of plans)) (Some (with_place place x)) steps s at_hand;

@@ -41,7 +41,7 @@ use Rattle.tp_placing.proofs.WritePlans.{retimed-is, retimed-not}
 use Rattle.tp_placing.proofs.LoadedTicks.{times}
 
 -- numbers that are those of a list, one after another
-ticks-read : (f : ℕ → ℕ) (i : ℕ) (xs : List ℕ) → ((k : ℕ) → k < length xs → f (i + k) ≡ slice_index xs k) → ticks_from f i (length xs) ≡ xs
+pub ticks-read : (f : ℕ → ℕ) (i : ℕ) (xs : List ℕ) → ((k : ℕ) → k < length xs → f (i + k) ≡ slice_index xs k) → ticks_from f i (length xs) ≡ xs
 ticks-read f i [] same = refl
 ticks-read f i (x ∷ xs) same =
     let z : i + 0 ≡ i = omega arith in

@@ -78,6 +78,7 @@ module _ {N : Type 0} (reading : Reading N) where
     firsts = s.firsts;
     few_points = s.few_points;
     few_plans = s.few_plans;
+    on_time = s.on_time;
     now = subst (λ y. IsAtWith m b.plans ask y steps (reading.net n) orders.orders held) (sym e) at;
     before = λ y c. s.before y (subst (λ xs. Contains xs y) same c);
     plain = plain-kept (length b.steps) b.causes causes keeps s.plain;
@@ -103,6 +104,7 @@ module _ {N : Type 0} (reading : Reading N) where
     firsts = s.firsts;
     few_points = s.few_points;
     few_plans = s.few_plans;
+    on_time = s.on_time;
     now = subst (λ k. IsAt m b.plans ask b.steps k b.orders.orders b.held) (sym same) s.now;
     before = λ y c. s.before y (subst (λ cs. Contains (side_by_side b.held b.steps cs b.orders.past b.marks) y) before c);
     plain = plain-kept (length b.steps) b.causes causes keeps s.plain;

@@ -56,6 +56,7 @@ stop-at stop_net machine plans ask x steps n lines holds s e asked flying going 
     let fh = at.few_holds in
     record {
       net = stop_net machine plans ask x table n (e ∷ []) asked flying going at.net (All-cons (IsEdgeOf table) e [] in' (All-nil (IsEdgeOf table))) gaps;
+      says = tt;
       solved = solved;
       orders = at.orders;
       at_hand = at-hand-push (length (table_of plans)) (Some (with_stop x)) steps s hand;

@@ -78,6 +78,7 @@ module _ (n : Net) (es fs : List Edge) (there : All (Contains es) fs) (back : Al
       let b = length-append n.edges fs in
       record {
         net = net-swapped _ _ _ _ _ at.net;
+        says = tt;
         solved = least-swapped at.solved;
         orders = at.orders;
         at_hand = at.at_hand;

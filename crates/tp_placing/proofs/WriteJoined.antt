@@ -21,7 +21,7 @@ use Rattle.tp_choices.proofs.Joining.{filter-put_out}
 use Rattle.tp_choices.proofs.Lists.{filter-all}
 use Rattle.tp_choices.proofs.Parts.{filter-swap}
 use Rattle.tp_placing.specs.Writing.{retimed_in}
-use Rattle.tp_placing.proofs.WriteLive.{gone, may-forget, stays}
+use Rattle.tp_placing.proofs.WriteLive.{gone, may-forget, put-of, stays}
 use Rattle.tp_placing.proofs.WriteTimes.{ticks-same}
 use Rattle.tp_placing.proofs.WritePlans.{in_order-retimed, retimed-is, retimed-not, retimed-sheet}
 use Rattle.tp_placing.proofs.WriteWhole.{less-live, loaded-here, loaded-is}
@@ -41,7 +41,7 @@ map-same {X} f (x ∷ xs) same =
     λ i. one i ∷ rest i
 
 -- plans by their copies, which a change of points leaves
-filter-map : (g : SheetId → Bool) (f : Plan → Plan) (plans : List Plan) → ((p : Plan) → (f p).sheet ≡ p.sheet) → filter (λ p. g p.sheet) (map f plans) ≡ map f (filter (λ p. g p.sheet) plans)
+pub filter-map : (g : SheetId → Bool) (f : Plan → Plan) (plans : List Plan) → ((p : Plan) → (f p).sheet ≡ p.sheet) → filter (λ p. g p.sheet) (map f plans) ≡ map f (filter (λ p. g p.sheet) plans)
 filter-map g f [] same = refl
 filter-map g f (p ∷ plans) same = ap (λ c. cond (g c) (f p ∷ filter (λ q. g q.sheet) (map f plans)) (filter (λ q. g q.sheet) (map f plans))) (same p) ∙ go (g p.sheet) (filter-map g f plans same) where
   go : (b : Bool) → filter (λ q. g q.sheet) (map f plans) ≡ map f (filter (λ q. g q.sheet) plans) → cond b (f p ∷ filter (λ q. g q.sheet) (map f plans)) (filter (λ q. g q.sheet) (map f plans)) ≡ map f (cond b (p ∷ filter (λ q. g q.sheet) plans) (filter (λ q. g q.sheet) plans))
@@ -53,7 +53,7 @@ put-first p [] later = refl
 put-first p (q ∷ xs) later = let e = All-head (IsEarlier p) q xs later in rw e refl
 
 -- a plan that a test on copies passes is put among those that pass
-filter-put : (g : SheetId → Bool) (p : Plan) (xs : List Plan) → AllPairs IsEarlier xs → g p.sheet ≡ true → filter (λ q. g q.sheet) (put_plan p xs) ≡ put_plan p (filter (λ q. g q.sheet) xs)
+pub filter-put : (g : SheetId → Bool) (p : Plan) (xs : List Plan) → AllPairs IsEarlier xs → g p.sheet ≡ true → filter (λ q. g q.sheet) (put_plan p xs) ≡ put_plan p (filter (λ q. g q.sheet) xs)
 filter-put g p [] in_order e = rw e refl
 filter-put g p (q ∷ xs) in_order e = go (is_before p.sheet q.sheet) refl (g q.sheet) refl (filter-put g p xs (AllPairs-tail IsEarlier q xs in_order) e) where
   behind : is_before p.sheet q.sheet ≡ true → put_plan p (filter (λ r. g r.sheet) xs) ≡ p ∷ filter (λ r. g r.sheet) xs
@@ -141,12 +141,12 @@ module _ (machine : Machine) (plans : List Plan) (ask : Ask) (can : CanAsk machi
           pick false e = refl
           pick true e =
               let is : ended ask.sheet ≡ true = ap ended (sym (same_copy-is p.sheet ask.sheet e)) ∙ (Contains-filter_from (λ q. ended q.sheet) plans p in').1 in
-              let no : ended ask.sheet ≡ false = stays machine plans ask can in
+              let no : ended ask.sheet ≡ false = stays machine plans ask (put-of machine plans ask can) in
               cc
 
   pub joined : AllPairs IsEarlier (map (retimed_in live t) plans) → AllPairs IsEarlier written → IsJoined ended plans (answered live ask choices t) written
   joined before in_order =
-      let stays-on : ended ask.sheet ≡ false = stays machine plans ask can in
+      let stays-on : ended ask.sheet ≡ false = stays machine plans ask (put-of machine plans ask can) in
       record {
         in_order = in_order;
         live_part =

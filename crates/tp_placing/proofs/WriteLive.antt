@@ -20,6 +20,7 @@ use Rattle.tp_schedule.specs.declared.parts.SheetId.{SheetId}
 use Rattle.tp_schedule.proofs.CopyFacts.{before-other, plan_of-itself, same_copy-is}
 use Rattle.tp_choices.proofs.PlansOf.{plan_of-contains}
 use Rattle.tp_choices.specs.LiveParts.{EndsAhead, MayAskBeside, MayForget}
+use Rattle.tp_placing.specs.Writing.{CanPut}
 use Rattle.tp_placing.proofs.WritePlans.{or-true}
 
 -- a plan with a point above the moment is live
@@ -59,7 +60,11 @@ module _ (machine : Machine) (plans : List Plan) (now : ℕ) (can : CanPlanOn ma
     go true e = absurd cc
     go false e = refl
 
-module _ (machine : Machine) (plans : List Plan) (ask : Ask) (can : CanAsk machine plans ask) where
+-- an ask that can be put on a schedule
+pub put-of : (machine : Machine) (plans : List Plan) (ask : Ask) → CanAsk machine plans ask → CanPut machine plans ask
+put-of machine plans ask can = record { plan_on = can.plan_on; asked = can.asked; has_time = can.has_time; open_goal = can.open_goal }
+
+module _ (machine : Machine) (plans : List Plan) (ask : Ask) (can : CanPut machine plans ask) where
   abbrev gone' : SheetId → Bool
   gone' = gone machine plans ask.now can.plan_on
 

@@ -1,7 +1,7 @@
 -- Plans that get other points.
-use Rattle.std.proofs.Common.{IsSome, Option, ◌≡◌, ℕ, zero, suc, Bool, true, false, cond, ◌||◌, List, [], ◌∷◌, ◌++◌, length, map, take, refl, ap, sym, ◌∙◌, subst, Some, None, All, AllPairs, get_or}
+use Rattle.std.proofs.Common.{IsSome, Option, ◌≡◌, ℕ, zero, suc, Bool, true, false, cond, ◌||◌, List, [], ◌∷◌, ◌++◌, length, filter, map, take, append-nil, refl, ap, sym, ◌∙◌, subst, Some, None, All, AllPairs, get_or}
 use Rattle.std.specs.Prelude.{slice_get}
-use Rattle.std.proofs.lemmas.List.Elements.{All-head, All-tail}
+use Rattle.std.proofs.lemmas.List.Elements.{All-head, All-tail, filter-append}
 use Rattle.tp_base.proofs.SliceFacts.{All-at}
 use Rattle.tp_schedule.proofs.CopyFacts.{NotOf, before-not_same, before-not_same', same_copy-is, same_copy-refl}
 use Rattle.tp_schedule.proofs.Pairs.{AllPairs-head, AllPairs-map, AllPairs-tail}
@@ -115,6 +115,21 @@ not-before (suc k) (q ∷ live) p in_order there =
     let rest = not-before k live p (AllPairs-tail IsEarlier q live in_order) there in
     let first : is_same_copy q.sheet p.sheet ≡ false = before-not_same q.sheet p.sheet (All-at (IsEarlier q) live k p (AllPairs-head IsEarlier q live in_order) there) in
     rw (first, rest) refl
+
+-- those of the loaded plans that pass a test, with one plan more
+pub part-not : (mine : Plan → Bool) (live : List Plan) (copy : SheetId) → is_loaded live copy ≡ false → is_loaded (filter mine live) copy ≡ false
+part-not mine [] copy none = refl
+part-not mine (q ∷ live) copy none = go (mine q) (is_same_copy q.sheet copy) refl none (part-not mine live copy) where
+  go : (b c : Bool) → is_same_copy q.sheet copy ≡ c → (c || is_loaded live copy) ≡ false → (is_loaded live copy ≡ false → is_loaded (filter mine live) copy ≡ false) → is_loaded (cond b (q ∷ filter mine live) (filter mine live)) copy ≡ false
+  go b true e none' rest = absurd cc
+  go true false e none' rest = rw e (rest none')
+  go false false e none' rest = rest none'
+
+pub part-more : (mine : Plan → Bool) (live : List Plan) (p : Plan) → mine p ≡ true → filter mine live ++ p ∷ [] ≡ filter mine (live ++ p ∷ [])
+part-more mine live p e = (let one : filter mine (p ∷ []) ≡ p ∷ [] = rw e refl in ap (λ ps. filter mine live ++ ps) (sym one)) ∙ sym (filter-append mine live (p ∷ []))
+
+pub part-same : (mine : Plan → Bool) (live : List Plan) (p : Plan) → mine p ≡ false → filter mine live ≡ filter mine (live ++ p ∷ [])
+part-same mine live p e = sym (append-nil (filter mine live)) ∙ (let one : filter mine (p ∷ []) ≡ [] = rw e refl in ap (λ ps. filter mine live ++ ps) (sym one)) ∙ sym (filter-append mine live (p ∷ []))
 
 -- where none is loaded the plans stay
 pub retimed-none : (t : Ticks) (plans : List Plan) → plans ≡ map (retimed_in [] t) plans

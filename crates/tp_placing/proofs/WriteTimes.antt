@@ -1,6 +1,6 @@
 -- The times of the least solution, point after point.
 use Rattle.std.proofs.Common.{◌≡◌, ℕ, zero, suc, ◌+◌, ◌<◌, ◌≤◌, List, [], ◌∷◌, ◌++◌, length, refl, ap, sym, ◌∙◌, arith}
-use Rattle.tp_base.specs.Net.{Net, HasLeast}
+use Rattle.tp_base.specs.Net.{Net, HasLeast, IsLeast}
 use Rattle.std.proofs.Common.{AllPairs, get_or}
 use Rattle.std.proofs.lemmas.Option.{slice_get_read, slice_get-get_or}
 use Rattle.tp_base.specs.declared.edges.PointId.{PointId}
@@ -12,6 +12,7 @@ use Rattle.tp_schedule.specs.declared.parts.Plan.{Plan}
 use Rattle.tp_constraints.specs.Numbers.{table_of, ticks_by}
 use Rattle.tp_constraints.proofs.Numbering.{number-at}
 use Rattle.tp_constraints.proofs.PointTable.{table_law}
+use Rattle.tp_placing.specs.Settled.{AreLeastFrom, HasLeastPoints}
 use Rattle.tp_placing.specs.Standing.{AreFirsts}
 use Rattle.tp_placing.specs.Writing.{AreLeastTicks}
 use Rattle.tp_placing.proofs.TableFacts.{begins-at, length-firsts}
@@ -44,6 +45,12 @@ ticks-same f g i j (suc n) h =
     ap f c ∙ h (suc k) (omega arith) ∙ ap g (sym d)) in
     λ q. first q ∷ rest q
 
+-- the number at a place
+pub ticks-get : (f : ℕ → ℕ) (i n k d : ℕ) → k < n → get_or (ticks_from f i n) k d ≡ f (i + k)
+ticks-get f i zero k d within = absurd (omega arith)
+ticks-get f i (suc n) zero d within = let e : i + 0 ≡ i = omega arith in ap f (sym e)
+ticks-get f i (suc n) (suc k) d within = let e : suc i + k ≡ i + suc k = omega arith in ticks-get f (suc i) n k d (omega arith) ∙ ap f e
+
 -- the times of a loaded plan's points are its ticks
 pub plan-ticks : (net : Net) (plans : List Plan) (firsts : List PointId) (k : ℕ) (p : Plan) (d : PointId) (t : Ticks) (n : ℕ) → AreFirsts 0 plans firsts → k < length plans → p ≡ get_or plans k p → (a : AreLeastTicks net (table_of plans) t)
     → n ≤ suc (length p.acts) → ticks_from a.solution (get_or firsts k d).0 n ≡ ticks_from (at t p) 0 n
@@ -57,7 +64,21 @@ plan-ticks net plans firsts k p d t n are within read a few =
     let z : i ≡ 0 + i = omega arith in
     ap a.solution e ∙ sym (a.there (b.0 + i) (kept p.sheet i) (b.2.get i (omega arith))) ∙ ap (at t p) z)
 
+-- ticks by the least solution
+pub ticks-of : (net : Net) (plans : List Plan) (sol : ℕ → ℕ) → IsLeast net sol → AllPairs IsEarlier plans → AreLeastTicks net (table_of plans) (ticks_by (table_of plans) sol)
+ticks-of net plans sol least in_order = record { solution = sol; least = least; there = λ i s e. ap sol (number-at (table_of plans) (table_law plans in_order).differ i s e) }
+
+-- a plan that has its least points has the least times of its points
+pub least-from : (net : Net) (plans : List Plan) (firsts : List PointId) (k : ℕ) (p : Plan) (d : PointId) → AreFirsts 0 plans firsts → k < length plans → p ≡ get_or plans k p → AllPairs IsEarlier plans → length p.points ≡ suc (length p.acts)
+    → HasLeastPoints net plans p → AreLeastFrom net (get_or firsts k d).0 p.points
+unfolding ticks-of
+least-from net plans firsts k p d are within read in_order count points sol least =
+    let a = ticks-of net plans sol least in_order in
+    let own : ticks_from (at (ticks_by (table_of plans) sol) p) 0 (suc (length p.acts)) ≡ p.points = ap (λ (q : Plan). q.points) (points (ticks_by (table_of plans) sol) a) in
+    let ticks = plan-ticks net plans firsts k p d (ticks_by (table_of plans) sol) (suc (length p.acts)) are within read a (omega arith) in
+    sym own ∙ sym ticks ∙ ap (λ n. ticks_from sol (get_or firsts k d).0 n) (sym count)
+
 -- there are such ticks
 pub ticks-exist : (net : Net) (plans : List Plan) → HasLeast net → AllPairs IsEarlier plans → (t : Ticks) × AreLeastTicks net (table_of plans) t
 ticks-exist net plans least in_order =
-    (ticks_by (table_of plans) least.0, record { solution = least.0; least = least.1; there = λ i s e. ap least.0 (number-at (table_of plans) (table_law plans in_order).differ i s e) })
+    (ticks_by (table_of plans) least.0, ticks-of net plans least.0 least.1 in_order)

@@ -1,12 +1,12 @@
 -- An answer on the live part, joined with the plans that are not live, may forget them as before.
-use Rattle.std.proofs.Common.{◌≡◌, ℕ, ◌<◌, ◌≤◌, Bool, true, false, cond, not, ◌||◌, ◌&&◌, List, [], ◌∷◌, length, filter, refl, ap, sym, ◌∙◌, subst, arith, Some, Contains, All, inl, inr}
+use Rattle.std.proofs.Common.{◌≡◌, ℕ, ◌<◌, ◌≤◌, Bool, true, false, cond, not, ◌||◌, ◌&&◌, List, [], ◌∷◌, length, filter, refl, ap, sym, ◌∙◌, subst, arith, Some, Contains, inl, inr}
 use Rattle.std.specs.Prelude.{nat_lt}
 use Rattle.std.proofs.lemmas.List.Elements.{All-contains}
 use Rattle.std.proofs.lemmas.Option.{same_Some}
 use Rattle.tp_machine.specs.declared.machine.Machine.{Machine}
 use Rattle.tp_schedule.specs.Answers.{IsAlternative, IsAskedFrom, follows_front, kept_from, kept_of}
 use Rattle.tp_schedule.specs.Living.{is_live}
-use Rattle.tp_schedule.specs.Planning.{CanAsk, CanPlanOn, HasTimeFrom}
+use Rattle.tp_schedule.specs.Planning.{CanPlanOn, HasTimeFrom}
 use Rattle.tp_schedule.specs.Plans.{IsTimedPlan, is_same_copy, plan_of, point}
 use Rattle.tp_schedule.specs.declared.parts.Ask.{Ask}
 use Rattle.tp_schedule.specs.declared.parts.Origin.{Origin}
@@ -14,11 +14,11 @@ use Rattle.tp_schedule.specs.declared.parts.Origin.TheVariants.{Feeder as FromFe
 use Rattle.tp_schedule.specs.declared.parts.Plan.{Plan}
 use Rattle.tp_schedule.specs.declared.parts.SheetId.{SheetId}
 use Rattle.tp_schedule.proofs.CopyFacts.{plan_of-itself, same_copy-is, same_copy-refl}
-use Rattle.tp_schedule.proofs.Membership.{All-from_contains, Contains-cons_cases, Contains-filter, Contains-filter_from, Contains-here, Contains-later}
+use Rattle.tp_schedule.proofs.Membership.{Contains-cons_cases, Contains-filter, Contains-filter_from, Contains-here, Contains-later}
 use Rattle.tp_choices.proofs.PlansOf.{plan_of-contains}
 use Rattle.tp_choices.proofs.PointFacts.{point-le}
 use Rattle.tp_choices.specs.LiveParts.{IsJoined, MayForget, less, only}
-use Rattle.tp_placing.specs.Writing.{IsLoadedFrom, is_loaded}
+use Rattle.tp_placing.specs.Writing.{CanPut, is_loaded}
 use Rattle.tp_placing.proofs.WriteLive.{gone, gone-of, may-forget}
 use Rattle.tp_placing.proofs.WritePlans.{or-true}
 
@@ -69,11 +69,7 @@ module _ (machine : Machine) (plans : List Plan) (now : ℕ) (can : CanPlanOn ma
         let alive : is_live machine now p ≡ true = ap (is_live machine now) (sym is) ∙ from.1 in
         cc
 
-  -- the loaded plans are plans of the schedule
-  pub live-planned : All (λ p. plan_of p.sheet plans ≡ Some p) (filter (is_live machine now) plans)
-  live-planned = All-from_contains (λ (p : Plan). plan_of p.sheet plans ≡ Some p) (filter (is_live machine now) plans) (λ p in'. plan_of-itself plans p can.legal.in_order (Contains-filter_from (is_live machine now) plans p in').0)
-
-module _ (machine : Machine) (plans : List Plan) (ask : Ask) (can : CanAsk machine plans ask) where
+module _ (machine : Machine) (plans : List Plan) (ask : Ask) (can : CanPut machine plans ask) where
   -- the new schedule's unreleased starts are above the moment
   still-ahead : (new : List Plan) (b : IsAlternative machine plans ask new) (p : Plan) → Contains new p → (i : ℕ) → p.released ≤ i → i < length p.acts → ask.now < point p i
   still-ahead new b p in' i le within = by (follows_front ask p) refl where
@@ -104,6 +100,3 @@ module _ (machine : Machine) (plans : List Plan) (ask : Ask) (can : CanAsk machi
         (may-forget machine plans ask.now can.plan_on).past p (Contains-filter_from (λ q. gone machine plans ask.now can.plan_on q.sheet) plans p here).0 is;
     ahead = still-ahead new b;
   }
-
-pub loaded-planned : (machine : Machine) (plans : List Plan) (ask : Ask) (live : List Plan) → IsLoadedFrom machine plans ask live → All (λ p. plan_of p.sheet plans ≡ Some p) live
-loaded-planned machine plans ask live from = subst (All (λ (p : Plan). plan_of p.sheet plans ≡ Some p)) (sym from.live_part) (live-planned machine plans ask.now from.can_ask.plan_on)

@@ -1,4 +1,4 @@
--- What a board holds: live plans and an ask, and the steps that were taken since they were loaded.
+-- What a board holds: plans and an ask, and the steps that were taken since they were loaded.
 use Rattle.std.specs.Prelude.{ℕ, Bool, List, [], ◌∷◌, take, fold, Option, Some, None}
 use Rattle.tp_base.specs.Net.{Net}
 use Rattle.tp_base.specs.Readings.{Reading}
@@ -15,7 +15,7 @@ use Rattle.tp_placing.specs.declared.parts.Step.{Step}
 use Rattle.tp_placing.specs.declared.parts.Change.{Change}
 use Rattle.tp_placing.specs.declared.parts.Change.TheVariants.{Goal, Action, Place, Stop}
 
--- the network, the orders of the holds by their numbers, the live plans, the ask, the steps since they were loaded, why the
+-- the network, the orders of the holds by their numbers, the plans, the ask, the steps since they were loaded, why the
 -- network's edges stand, and whether the plans are known to have their least ticks
 pub record BoardValue (N : Type 0) : Type 0 where
   pub net : N

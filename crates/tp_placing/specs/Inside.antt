@@ -33,7 +33,7 @@ board_of net orders held plans firsts last floor horizon ask steps marks made_fo
   settled = settled;
 }
 
--- the most live plans, own points beside them, steps, holds and edges
+-- the most plans, own points beside them, steps, holds and edges
 abbrev pub most_plans : ℕ
 most_plans = 257
 

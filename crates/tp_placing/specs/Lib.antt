@@ -17,3 +17,4 @@ pub mod Growing
 pub mod Candidates
 pub mod Crowding
 pub mod Following
+pub mod Moving

@@ -11,6 +11,7 @@ use Rattle.tp_schedule.specs.Spots.{slot_order}
 use Rattle.tp_schedule.specs.declared.parts.Ask.{Ask}
 use Rattle.tp_schedule.specs.declared.parts.Plan.{Plan}
 use Rattle.tp_timelines.specs.Orders.{order_on, total}
+use Rattle.tp_keeping.specs.Moments.{SayGaps}
 use Rattle.tp_constraints.specs.Hops.{no_choices}
 use Rattle.tp_constraints.specs.Laws.{IsLoadable}
 use Rattle.tp_constraints.specs.Nets.{IsLoadedNet}
@@ -21,7 +22,7 @@ use Rattle.tp_placing.specs.declared.parts.Held.{Held}
 use Rattle.tp_placing.specs.Loading.{plans_edges, lines_edges, chains_edges, holds_on}
 use Rattle.tp_placing.specs.Standing.{AreFirsts, AreSlots, HasSmallOffsets, loaded_edges, loaded_holds}
 
--- live plans that can be loaded at the moment
+-- plans that can be loaded at the moment
 pub record CanLoad (machine : Machine) (now : ℕ) (plans : List Plan) : Type 0 where
   pub now_at_most : now ≤ last_tick
   pub loadable : IsLoadable machine now (λ _. false) plans
@@ -35,6 +36,7 @@ all_edges machine plans lines held = plans_edges machine 0 plans ++ (lines_edges
 -- the network is that of the plans, the orders are those of their holds, and the causes those of its edges
 pub record IsLoaded (machine : Machine) (now : ℕ) (plans : List Plan) (n : Net) (lines : List (List ℕ)) (held : List Held) (firsts : List PointId) (causes : List EdgeCause) : Type 0 where
   pub net : IsLoadedNet machine now (λ _. false) plans (table_of plans) n
+  pub says : SayGaps machine plans n.edges
   pub solved : HasLeast n
   pub hops : (ask : Ask) → All (IsNamedHop machine plans ask no_choices causes) n.edges
   pub safe : All (IsSafe 0) n.edges

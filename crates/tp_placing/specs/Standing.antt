@@ -1,4 +1,4 @@
--- What holds of a loaded board: its network and its orders are those of the live plans with the suffix so far.
+-- What holds of a loaded board: its network and its orders are those of its plans with the suffix so far.
 use Rattle.std.specs.Prelude.{◌≡◌, ℕ, zero, suc, ◌+◌, ◌-◌, ◌*◌, ◌<◌, ◌≤◌, Bool, false, true, List, [], ◌∷◌, ◌++◌, length, slice_get, Option, Some, None, All, Contains, if◌then◌else◌}
 use Rattle.tp_base.specs.Readings.{Reading}
 use Rattle.tp_base.specs.Net.{Net, HasLeast}
@@ -6,13 +6,14 @@ use Rattle.tp_machine.specs.Machines.{IsOffset}
 use Rattle.tp_machine.specs.declared.parts.ActId.{ActId}
 use Rattle.tp_machine.specs.declared.parts.HoldRule.{HoldRule}
 use Rattle.tp_machine.specs.declared.machine.Machine.{Machine}
-use Rattle.tp_schedule.specs.Answers.{IsAsked, kept_of}
+use Rattle.tp_schedule.specs.Answers.{IsAsked, KeepsHorizon, kept_of}
 use Rattle.tp_schedule.specs.Choices.{Choice, start_floor}
 use Rattle.tp_schedule.specs.Spots.{Spot, Slot, slot_order}
 use Rattle.tp_schedule.specs.Spots.Spot.{own}
 use Rattle.tp_schedule.specs.declared.parts.Ask.{Ask}
 use Rattle.tp_schedule.specs.declared.parts.Plan.{Plan}
 use Rattle.tp_timelines.specs.Orders.{order_on, total}
+use Rattle.tp_keeping.specs.Moments.{SayGaps}
 use Rattle.tp_constraints.specs.Hops.{no_choices}
 use Rattle.tp_constraints.specs.Laws.{IsLoadable}
 use Rattle.tp_constraints.specs.Nets.{IsLoadedNet, IsBoardNet}
@@ -49,6 +50,11 @@ board_table plans x = table_with plans (own_points x)
 abbrev pub IsNetOf : Machine → List Plan → Ask → Option Suffix → Net → Type 0
 IsNetOf machine plans ask None net = IsLoadedNet machine ask.now (λ _. false) plans (table_of plans) net
 IsNetOf machine plans ask (Some x) net = IsBoardNet machine plans ask x (table_with plans (suc (length x.choices))) net
+
+-- where no goal is open, the edges say the gaps of the plans, whatever the bounds of points are
+abbrev pub SaysOf : Machine → List Plan → Option Suffix → Net → Type 0
+SaysOf machine plans None net = SayGaps machine plans net.edges
+SaysOf machine plans (Some x) net = Unit {0}
 
 -- the choices so far, if a goal is open
 abbrev pub choices_of : Option Suffix → Suffix
@@ -121,6 +127,7 @@ HasSmallOffsets rule = IsOffset rule.begin_off × IsOffset rule.end_off
 -- the network and the orders are those of the plans with this suffix, if a goal is open, after these steps
 pub record IsAtWith (machine : Machine) (plans : List Plan) (ask : Ask) (x : Option Suffix) (steps : List Step) (n : Net) (lines : List (List ℕ)) (holds : List Held) : Type 0 where
   pub net : IsNetOf machine plans ask x n
+  pub says : SaysOf machine plans x n
   pub solved : HasLeast n
   pub orders : (resource : ℕ) → resource < length machine.resources → AreSlots (board_table plans x) holds (order_on lines resource) (order_after machine plans x resource)
   pub at_hand : (s : Step) → slice_get steps (length steps - 1) ≡ Some s → IsAtHand (length (table_of plans)) x s
@@ -153,6 +160,7 @@ pub record StandsOn {N : Type 0} (reading : Reading N) (b : BoardValue N) (machi
   pub horizon : b.horizon ≡ ask.now + machine.window
   pub small_horizon : b.horizon < 2147483648
   pub loadable : IsLoadable machine ask.now (λ _. false) b.plans
+  pub on_time : KeepsHorizon machine ask.now b.plans
   pub origin : IsAsked machine b.plans ask
   pub last : b.last.0 ≡ length (table_of b.plans)
   pub firsts : AreFirsts 0 b.plans b.firsts

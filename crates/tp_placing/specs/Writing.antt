@@ -7,7 +7,8 @@ use Rattle.tp_machine.specs.declared.parts.State.{State}
 use Rattle.tp_machine.specs.declared.machine.Machine.{Machine}
 use Rattle.tp_schedule.specs.Choices.{IsChoiceList, IsComplete}
 use Rattle.tp_schedule.specs.Living.{is_live}
-use Rattle.tp_schedule.specs.Planning.{CanAsk}
+use Rattle.tp_schedule.specs.Answers.{IsAsked}
+use Rattle.tp_schedule.specs.Planning.{CanAsk, CanPlanOn, HasTimeFrom, IsOpenGoal}
 use Rattle.tp_schedule.specs.Plans.{is_same_copy}
 use Rattle.tp_schedule.specs.Routes.{IsStart}
 use Rattle.tp_schedule.specs.Spots.{Spot, Ticks}
@@ -24,6 +25,20 @@ use Rattle.tp_placing.specs.declared.parts.Step.{Step}
 pub record IsLoadedFrom (machine : Machine) (plans : List Plan) (ask : Ask) (live : List Plan) : Type 0 where
   pub can_ask : CanAsk machine plans ask
   pub live_part : live ≡ filter (is_live machine ask.now) plans
+
+-- the ask can be put on the plans, however many are live and whatever their names
+pub record CanPut (machine : Machine) (plans : List Plan) (ask : Ask) : Type 0 where
+  pub plan_on : CanPlanOn machine ask.now plans
+  pub asked : IsAsked machine plans ask
+  pub has_time : HasTimeFrom plans ask.now ask.origin
+  pub open_goal : IsOpenGoal machine plans ask ask.goal
+
+-- the held plans are the live ones of a schedule on which the ask can be put, perhaps with others that are over by now; and on
+-- them it can be put too
+pub record IsHeldFrom (machine : Machine) (plans : List Plan) (ask : Ask) (held : List Plan) : Type 0 where
+  pub can_ask : CanAsk machine plans ask
+  pub can_put : CanPut machine held ask
+  pub live_part : filter (is_live machine ask.now) held ≡ filter (is_live machine ask.now) plans
 
 -- the suffix is a complete choice list, of one choice or more, with its true rooms
 pub record CanCommit (machine : Machine) (plans : List Plan) (ask : Ask) (x : Suffix) : Type 0 where

@@ -14,7 +14,7 @@ pub struct Board<N: Network> {
     pub(crate) held: Vec<Held>,
     /// Where the holds of a schedule are sorted.
     pub(crate) begins: Vec<Begin>,
-    /// The live plans.
+    /// The plans that are held: the live ones, and perhaps some that are over.
     pub(crate) plans: Vec<Plan>,
     /// The first point of each plan.
     pub(crate) firsts: Vec<PointId>,

@@ -8,7 +8,7 @@ ghost use Rattle.tp_placing.specs.Boards.{suffix_of};
 ghost use Rattle.tp_placing.specs.Settled.{HasLeastPoints};
 ghost use Rattle.tp_placing.specs.Standing.{Stands};
 ghost use Rattle.tp_placing.specs.Ticks.{HasLeastTick};
-ghost use Rattle.tp_placing.specs.Writing.{CanCommit, IsLoadedFrom};
+ghost use Rattle.tp_placing.specs.Writing.{CanCommit, IsHeldFrom};
 
 use crate::asked::{OwnActs, plan_by_steps};
 use crate::board::Board;
@@ -30,12 +30,13 @@ impl<N: Network> Board<N> {
         !self.net.may_have_risen(self.last)
     }
 
-    /// Writes the asked copy's plan and the times of all loaded plans into the schedule that the board was loaded from. Takes
-    /// one spare plan for a new copy, and no memory. Answers whether another plan moved.
+    /// Writes the asked copy's plan and the times of the loaded plans into the schedule whose live plans the board holds. Plans
+    /// that are over by now stay as they are there. Takes one spare plan for a new copy, and no memory. Answers whether another
+    /// plan moved.
     pub fn commit(&self, machine: &Machine, schedule: &mut Schedule) -> bool
         requires stands { Stands N.reading self.now machine.now }
         requires loaded { IsSomeAnd self.now.ask
-            (λ ask. IsLoadedFrom machine.now schedule.old.plans ask self.now.plans) }
+            (λ ask. IsHeldFrom machine.now schedule.old.plans ask self.now.plans) }
         requires complete { IsSomeAnd self.now.ask
             (λ ask. IsSomeAnd (suffix_of self.now) (CanCommit machine.now self.now.plans ask)) }
         requires spare { IsSomeAnd self.now.ask

@@ -18,7 +18,7 @@ fn is_fixed(plan: &Plan, at: u32) -> bool
 }
 
 /// The least tick of a point: its own where it is fixed, and above the floor for an unreleased start.
-fn lowest(plan: &Plan, at: u32, floor: Tick) -> Tick
+pub(crate) fn lowest(plan: &Plan, at: u32, floor: Tick) -> Tick
     requires formed { IsFormed plan.now }
     requires within { at ≤ length plan.now.acts }
     requires fits { floor + 1 < 2 ^ 32 }
@@ -35,7 +35,7 @@ fn lowest(plan: &Plan, at: u32, floor: Tick) -> Tick
 }
 
 /// The greatest tick of a point: its own where it is fixed, or the horizon.
-fn highest(plan: &Plan, at: u32, horizon: Tick) -> Tick
+pub(crate) fn highest(plan: &Plan, at: u32, horizon: Tick) -> Tick
     requires formed { IsFormed plan.now }
     requires within { at ≤ length plan.now.acts }
     ensures { result ≡ cap_of horizon plan.now at }

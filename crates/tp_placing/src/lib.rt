@@ -22,6 +22,7 @@ mod laws;
 mod lining;
 mod loading;
 mod making;
+mod moving;
 mod names;
 mod naming;
 mod neighbours;

@@ -12,7 +12,7 @@ use tp_base::{Memory, Network, PointId};
 use tp_machine::Machine;
 use tp_timelines::Timelines;
 
-/// How many live plans, steps, and holds there can be, and how many marks the orders take.
+/// How many plans, steps, and holds there can be, and how many marks the orders take.
 const PLANS: usize = 257;
 
 const STEPS: usize = 330;

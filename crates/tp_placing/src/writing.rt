@@ -1,5 +1,5 @@
 //! The times of a network's least solution, written into a schedule.
-ghost use Rattle.std.specs.Prelude.{◌≡◌, ℕ, suc, ◌+◌, ◌^◌, ◌<◌, ◌≤◌, All, AllPairs, length, map, slice_get, false, true, IsSome, Some, None};
+ghost use Rattle.std.specs.Prelude.{◌≡◌, ◌≢◌, ◌⊎◌, ℕ, suc, ◌+◌, ◌^◌, ◌<◌, ◌≤◌, All, AllPairs, Bool, filter, length, map, slice_get, false, true, IsSome, Some, None};
 ghost use Rattle.tp_base.specs.Net.{HasLeast, IsLeast};
 ghost use Rattle.tp_schedule.specs.Limits.{most_plan_points};
 ghost use Rattle.tp_schedule.specs.Plans.{IsEarlier, IsFormed, change_plan, plan_of, put_plan, with_points, without};
@@ -7,7 +7,7 @@ ghost use Rattle.tp_schedule.specs.Spots.{Ticks};
 ghost use Rattle.tp_schedule.specs.Times.{ticks_from};
 ghost use Rattle.tp_schedule.specs.declared.parts.Plan.{Plan as PlanValue};
 ghost use Rattle.tp_constraints.specs.Numbers.{table_of};
-ghost use Rattle.tp_placing.specs.Settled.{HasLeastPoints};
+ghost use Rattle.tp_placing.specs.Settled.{AreLeastFrom, AreOfSchedule, HasLeastPoints};
 ghost use Rattle.tp_placing.specs.Standing.{AreFirsts};
 ghost use Rattle.tp_placing.specs.Writing.{AreLeastTicks, retimed_in};
 
@@ -34,8 +34,9 @@ pub(crate) fn times_from<N: Network>(net: &N, first: PointId, count: u32) -> Poi
 fn have_times<N: Network>(net: &N, first: PointId, times: &[Tick]) -> bool
     requires known { first.0 + length times.now ≤ length (N.reading.net net.now).lows }
     requires fits { first.0 + length times.now < 2 ^ 32 }
-    ensures { result ≡ true → (sol : ℕ → ℕ) → IsLeast (N.reading.net net.now) sol
-        → times.now ≡ ticks_from sol first.0 (length times.now) }
+    ensures same { result ≡ true → AreLeastFrom (N.reading.net net.now) first.0 times.now }
+    ensures other { result ≡ false → (sol : ℕ → ℕ) → IsLeast (N.reading.net net.now) sol
+        → times.now ≢ ticks_from sol first.0 (length times.now) }
 {
     for (at, time) in times.iter().enumerate() {
         if net.earliest(PointId(first.0 + at as u32)) != *time {
@@ -75,15 +76,21 @@ pub(crate) fn are_settled<N: Network>(net: &N, plans: &[Plan], firsts: &[PointId
     true
 }
 
-/// Gives a plan of the schedule its least times. Writes nothing where it has them. Answers whether it did write.
+/// Gives a plan of the schedule its least times. Writes nothing where it has them, and then it need not be one of the schedule.
+/// Answers whether it did write.
 fn write_points<N: Network>(net: &N, plan: &Plan, first: PointId, schedule: &mut Schedule) -> bool
     requires formed { IsFormed plan.now }
-    requires planned { plan_of plan.now.sheet schedule.old.plans ≡ Some plan.now }
+    requires planned { (plan_of plan.now.sheet schedule.old.plans ≡ Some plan.now)
+        ⊎ AreLeastFrom (N.reading.net net.now) first.0 plan.now.points }
     requires known { first.0 + length plan.now.acts < length (N.reading.net net.now).lows }
     requires fits { first.0 + length plan.now.acts + 1 < 2 ^ 32 }
-    ensures plans { (sol : ℕ → ℕ) → IsLeast (N.reading.net net.now) sol → schedule.new.plans
+    requires solved { HasLeast (N.reading.net net.now) }
+    ensures plans { plan_of plan.now.sheet schedule.old.plans ≡ Some plan.now
+        → (sol : ℕ → ℕ) → IsLeast (N.reading.net net.now) sol → schedule.new.plans
         ≡ change_plan plan.now.sheet
         (with_points (ticks_from sol first.0 (suc (length plan.now.acts)))) schedule.old.plans }
+    ensures settled { AreLeastFrom (N.reading.net net.now) first.0 plan.now.points
+        → schedule.new.plans ≡ schedule.old.plans }
     ensures unmoved { result ≡ false → schedule.new.plans ≡ schedule.old.plans }
     ensures spare { schedule.new.spare ≡ schedule.old.spare }
 {
@@ -96,7 +103,7 @@ fn write_points<N: Network>(net: &N, plan: &Plan, first: PointId, schedule: &mut
 }
 
 /// Gives each of the loaded plans its least times in the schedule. Answers whether one had others. It looks at none of them
-/// where they are known to have these times.
+/// where they are known to have these times. Those that are no plans of the schedule have them, and are not written.
 pub(crate) fn write_times<N: Network>(
     net: &N,
     plans: &[Plan],
@@ -112,10 +119,13 @@ pub(crate) fn write_times<N: Network>(
     requires formed { All IsFormed plans.now }
     requires in_order { AllPairs IsEarlier plans.now }
     requires schedule { AllPairs IsEarlier schedule.old.plans }
-    requires planned { All (λ p. plan_of p.sheet schedule.old.plans ≡ Some p) plans.now }
+    requires planned { (mine : PlanValue → Bool)
+        × AreOfSchedule (N.reading.net net.now) plans.now schedule.old.plans mine }
     requires solved { HasLeast (N.reading.net net.now) }
-    ensures times { (t : Ticks) → AreLeastTicks (N.reading.net net.now) (table_of plans.now) t
-        → schedule.new.plans ≡ map (retimed_in plans.now t) schedule.old.plans }
+    ensures times { (mine : PlanValue → Bool)
+        → AreOfSchedule (N.reading.net net.now) plans.now schedule.old.plans mine
+        → (t : Ticks) → AreLeastTicks (N.reading.net net.now) (table_of plans.now) t
+        → schedule.new.plans ≡ map (retimed_in (filter mine plans.now) t) schedule.old.plans }
     ensures unmoved { result ≡ false → schedule.new.plans ≡ schedule.old.plans }
     ensures spare { schedule.new.spare ≡ schedule.old.spare }
 {

@@ -22,7 +22,7 @@ use Rattle.tp_placing.specs.Boards.{BoardValue, suffix_of}
 use Rattle.tp_placing.specs.Ticks.{HasLeastTick, IsLeastTick, TimesOf}
 use Rattle.tp_placing.specs.Writing.{CanCommit}
 use Rattle.tp_placing.proofs.StandFacts.{and-some, some-and}
-use Rattle.tp_placing.proofs.WriteLive.{gone, may-ask, may-forget, stays}
+use Rattle.tp_placing.proofs.WriteLive.{gone, may-ask, may-forget, put-of, stays}
 use Rattle.tp_placing.proofs.WriteWhole.{less-live}
 use Rattle.tp_search.specs.Following.{IsWayTo}
 use Rattle.tp_search.specs.Outcomes.{HasAnswer}
@@ -71,14 +71,14 @@ module _ (machine : Machine) (plans : List Plan) (ask : Ask) (can : CanAsk machi
   rest = is ∙ sym (less-live machine plans ask.now can.plan_on)
 
   pub never-whole : ((other : List Plan) → ¬ IsAlternative machine live ask other) → (other : List Plan) → ¬ IsAlternative machine plans ask other
-  never-whole none = live_has_none machine plans ask (gone machine plans ask.now can.plan_on) (may-forget machine plans ask.now can.plan_on) (stays machine plans ask can)
+  never-whole none = live_has_none machine plans ask (gone machine plans ask.now can.plan_on) (may-forget machine plans ask.now can.plan_on) (stays machine plans ask (put-of machine plans ask can))
       (subst (λ ps. (other : List Plan) → ¬ IsAlternative machine ps ask other) rest none)
 
   pub few-whole : (nodes : ℕ) → FewListsOpen machine live ask nodes → FewListsOpen machine plans ask nodes
-  few-whole nodes few = live_has_few machine plans ask (gone machine plans ask.now can.plan_on) nodes (may-forget machine plans ask.now can.plan_on) (may-ask machine plans ask can) (subst (λ ps. FewListsOpen machine ps ask nodes) rest few)
+  few-whole nodes few = live_has_few machine plans ask (gone machine plans ask.now can.plan_on) nodes (may-forget machine plans ask.now can.plan_on) (may-ask machine plans ask (put-of machine plans ask can)) (subst (λ ps. FewListsOpen machine ps ask nodes) rest few)
 
   pub spent-whole : (nodes bound : ℕ) → IsSpent machine live ask nodes bound → IsSpent machine plans ask nodes bound
-  spent-whole nodes bound spent = live_spends machine plans ask (gone machine plans ask.now can.plan_on) nodes bound (may-forget machine plans ask.now can.plan_on) (may-ask machine plans ask can) (subst (λ ps. IsSpent machine ps ask nodes bound) rest spent)
+  spent-whole nodes bound spent = live_spends machine plans ask (gone machine plans ask.now can.plan_on) nodes bound (may-forget machine plans ask.now can.plan_on) (may-ask machine plans ask (put-of machine plans ask can)) (subst (λ ps. IsSpent machine ps ask nodes bound) rest spent)
 
   pub none_before-whole : (bound : ℕ) → NoneBefore machine live ask bound → NoneBefore machine plans ask bound
-  none_before-whole bound none = live_bounds_answers machine plans ask (gone machine plans ask.now can.plan_on) bound (may-forget machine plans ask.now can.plan_on) (stays machine plans ask can) (subst (λ ps. NoneBefore machine ps ask bound) rest none)
+  none_before-whole bound none = live_bounds_answers machine plans ask (gone machine plans ask.now can.plan_on) bound (may-forget machine plans ask.now can.plan_on) (stays machine plans ask (put-of machine plans ask can)) (subst (λ ps. NoneBefore machine ps ask bound) rest none)

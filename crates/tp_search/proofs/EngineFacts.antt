@@ -12,7 +12,7 @@ use Rattle.tp_schedule.specs.declared.parts.Plan.{Plan}
 use Rattle.tp_schedule.specs.declared.parts.Reply.{Reply}
 use Rattle.tp_schedule.specs.declared.parts.Reply.TheVariants.{Never, Planned, Spent}
 use Rattle.tp_placing.specs.Following.{HoldsOthers}
-use Rattle.tp_placing.specs.Writing.{IsLoadedFrom}
+use Rattle.tp_placing.specs.Writing.{IsHeldFrom}
 use Rattle.tp_search.specs.Engines.{HasFewLists}
 
 pub few-told : (nodes : ℕ) (machine : Machine) (plans : List Plan) (ask : Ask) (reply : Reply) → (reply ≡ Never → FewListsOpen machine plans ask nodes) → HasFewLists nodes machine plans (replied ask reply)
@@ -20,8 +20,8 @@ few-told nodes machine plans ask Planned few = tt
 few-told nodes machine plans ask Never few = few refl
 few-told nodes machine plans ask (Spent bound) few = tt
 
--- a board that was loaded for an ask holds all other plans after an answer that moved none of them
-pub holds-others : (machine : Machine) (plans plans' : List Plan) (ask : Ask) (live : List Plan) → IsLoadedFrom machine plans ask live → without ask.sheet plans' ≡ without ask.sheet plans → HoldsOthers machine ask plans' live
-holds-others machine plans plans' ask live loaded unmoved new =
-    let none : plan_of ask.sheet plans ≡ None = subst (IsAskedFrom machine plans ask) new loaded.can_ask.asked in
-    ap (filter (is_live machine ask.now)) (unmoved ∙ without-none ask.sheet plans none) ∙ sym loaded.live_part
+-- a board that was made ready for an ask holds all other live plans after an answer that moved none of them
+pub holds-others : (machine : Machine) (plans plans' : List Plan) (ask : Ask) (held : List Plan) → IsHeldFrom machine plans ask held → without ask.sheet plans' ≡ without ask.sheet plans → HoldsOthers machine ask plans' held
+holds-others machine plans plans' ask held from unmoved new =
+    let none : plan_of ask.sheet plans ≡ None = subst (IsAskedFrom machine plans ask) new from.can_ask.asked in
+    ap (filter (is_live machine ask.now)) (unmoved ∙ without-none ask.sheet plans none) ∙ sym from.live_part

@@ -42,6 +42,8 @@ pub mod HoldChildren
 pub mod AskedFacts
 pub mod AnswerFacts
 pub mod TrialFacts
+pub mod HeldParts
+pub mod HeldFacts
 pub mod ShowFacts
 pub mod EngineFacts
 pub mod AgainFacts

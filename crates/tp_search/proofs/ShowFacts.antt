@@ -17,7 +17,7 @@ use Rattle.tp_choices.proofs.AnswerOpens.{answer_opens}
 use Rattle.tp_placing.specs.Boards.{BoardValue}
 use Rattle.tp_placing.specs.Standing.{AreFewSteps, StandsOn}
 use Rattle.tp_placing.specs.Writing.{IsLoadedFrom}
-use Rattle.tp_placing.proofs.WriteLive.{gone, gone-of, stays}
+use Rattle.tp_placing.proofs.WriteLive.{gone, gone-of, put-of, stays}
 use Rattle.tp_placing.proofs.WriteWhole.{filter-agree}
 use Rattle.tp_showing.specs.Showing as Shown
 use Rattle.tp_trees.specs.Claims.{live_part}
@@ -38,7 +38,7 @@ module _ (machine : Machine) (plans : List Plan) (ask : Ask) (live : List Plan) 
     or-false false = refl
   same-live p in' true same = go (is_live machine ask.now p) refl where
     stays-here : gone machine plans ask.now from.can_ask.plan_on p.sheet ≡ false
-    stays-here = ap (gone machine plans ask.now from.can_ask.plan_on) (same_copy-is p.sheet ask.sheet same) ∙ stays machine plans ask from.can_ask
+    stays-here = ap (gone machine plans ask.now from.can_ask.plan_on) (same_copy-is p.sheet ask.sheet same) ∙ stays machine plans ask (put-of machine plans ask from.can_ask)
 
     go : (b : Bool) → is_live machine ask.now p ≡ b → b ≡ (b || true)
     go true e = refl

@@ -24,7 +24,7 @@ use Rattle.tp_placing.specs.Boards.{BoardValue, suffix_of}
 use Rattle.tp_placing.specs.Laws.{UndoKeeps}
 use Rattle.tp_placing.specs.Ticks.{HasLeastTick, IsLeastTick, TimesOf}
 use Rattle.tp_placing.specs.Writing.{CanCommit}
-use Rattle.tp_placing.proofs.WriteLive.{gone, may-ask, may-forget}
+use Rattle.tp_placing.proofs.WriteLive.{gone, may-ask, may-forget, put-of}
 use Rattle.tp_search.specs.Boards.{IsAtRest, IsBack, IsReady}
 use Rattle.tp_search.specs.Outcomes.{HasAnswer}
 use Rattle.tp_schedule.specs.Planning.{IsKnownGoal}
@@ -35,7 +35,7 @@ use Rattle.tp_search.proofs.AnswerFacts.{answer-commits, answer-ends, none_befor
 use Rattle.tp_search.proofs.BoardSteps.{IsUndone, undone-back}
 
 -- a complete list stays complete with its places further on
-complete-shifted : (machine : Machine) (ask : Ask) (counts : ℕ → ℕ) (list : ChoiceList) → IsComplete machine ask list → IsComplete machine ask (shifted machine counts list)
+pub complete-shifted : (machine : Machine) (ask : Ask) (counts : ℕ → ℕ) (list : ChoiceList) → IsComplete machine ask list → IsComplete machine ask (shifted machine counts list)
 complete-shifted machine ask counts list = go ask.origin where
   go : (o : Origin) → IsCompleteFrom machine ask list o → IsCompleteFrom machine ask (shifted machine counts list) o
   go FromFeeder (s, first, start) = (s, subst (λ path. walk machine ask.want path s ≡ Some list.goal) (sym (acts-shifted machine counts list.choices)) first, start)
@@ -53,7 +53,7 @@ module _ (machine : Machine) (plans : List Plan) (ask : Ask) (can : CanAsk machi
 
   further-opens : OpensTo machine live ask list bound → OpensTo machine plans ask further bound
   further-opens opens =
-      live_opens machine plans ask (gone machine plans ask.now can.plan_on) list bound (may-forget machine plans ask.now can.plan_on) (may-ask machine plans ask can)
+      live_opens machine plans ask (gone machine plans ask.now can.plan_on) list bound (may-forget machine plans ask.now can.plan_on) (may-ask machine plans ask (put-of machine plans ask can))
       (subst (λ ps. OpensTo machine ps ask list bound) (rest machine plans ask can live is) opens)
 
   further-some : 0 < length list.choices → 0 < length further.choices

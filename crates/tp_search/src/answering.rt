@@ -8,7 +8,7 @@ ghost use Rattle.tp_schedule.specs.declared.parts.Plan.{Plan};
 ghost use Rattle.tp_placing.specs.Calls.{IsSameLoad};
 ghost use Rattle.tp_placing.specs.Inside.{most_steps};
 ghost use Rattle.tp_placing.specs.Standing.{IsMadeFor};
-ghost use Rattle.tp_placing.specs.Writing.{IsLoadedFrom};
+ghost use Rattle.tp_placing.specs.Writing.{IsHeldFrom, IsLoadedFrom};
 ghost use Rattle.tp_routes.specs.Tables.{KeepsRooms};
 ghost use Rattle.tp_search.specs.Boards.{IsAtRest};
 ghost use Rattle.tp_search.specs.Engines.{HasTree};
@@ -80,7 +80,7 @@ pub(crate) fn answer_loaded<N: Network>(
     requires work { IsFor work.old machine.now }
     requires rooms { KeepsRooms work.old.rooms machine.now }
     requires marks { 8 ≤ N.reading.max_marks board.old.net }
-    requires loaded { IsLoadedFrom machine.now schedule.old.plans ask.now board.old.plans }
+    requires held { IsHeldFrom machine.now schedule.old.plans ask.now board.old.plans }
     requires asked { board.old.ask ≡ Some ask.now }
     requires rests { IsAtRest N.reading board.old machine.now }
     requires spare { plan_of ask.now.sheet schedule.old.plans ≡ None → 0 < schedule.old.spare }
@@ -133,15 +133,15 @@ pub(crate) fn earliest_end<N: Network>(
     requires work { IsFor work.old machine.now }
     requires rooms { KeepsRooms work.old.rooms machine.now }
     requires marks { 8 ≤ N.reading.max_marks board.old.net }
-    requires loaded { (plans : List Plan)
-        × IsLoadedFrom machine.now plans ask.now board.old.plans }
+    requires held { (plans : List Plan)
+        × IsHeldFrom machine.now plans ask.now board.old.plans }
     requires asked { board.old.ask ≡ Some ask.now }
     requires rests { IsAtRest N.reading board.old machine.now }
     ensures end { (plans : List Plan)
-        → IsLoadedFrom machine.now plans ask.entry.now board.old.plans
+        → IsHeldFrom machine.now plans ask.entry.now board.old.plans
         → IfOk result (EndsEarliest machine.now plans ask.entry.now) }
     ensures none { (plans : List Plan)
-        → IsLoadedFrom machine.now plans ask.entry.now board.old.plans
+        → IsHeldFrom machine.now plans ask.entry.now board.old.plans
         → IfErr result (IsNoPlan machine.now plans ask.entry.now work.old.nodes) }
     ensures work { StaysFor machine.now work.old work.new }
     ensures rooms { KeepsRooms work.new.rooms machine.now }

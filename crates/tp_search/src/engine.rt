@@ -6,7 +6,7 @@ ghost use Rattle.tp_schedule.specs.Plans.{without};
 ghost use Rattle.tp_schedule.specs.declared.parts.Origin.TheVariants.{Feeder};
 ghost use Rattle.tp_placing.specs.Calls.{IsSameLoad};
 ghost use Rattle.tp_placing.specs.Inside.{most_edges, most_points, most_steps};
-ghost use Rattle.tp_placing.specs.Writing.{IsLoadedFrom};
+ghost use Rattle.tp_placing.specs.Writing.{IsHeldFrom, IsLoadedFrom};
 ghost use Rattle.tp_routes.specs.Tables.{KeepsRooms};
 ghost use Rattle.tp_search.specs.Boards.{IsAtRest};
 ghost use Rattle.tp_search.specs.Engines.{AddsTree, EngineLasts, Follows, HasFewLists, HoldsPlans, IsSameEngine, KeepsTrees, Serves, StepsOn, list_of};
@@ -125,15 +125,18 @@ impl<N: Network> Engine<N> {
         self.trees.clear();
     }
 
-    /// Loads the board for an ask: it follows the schedule where it is kept, without a look at the plans that it is known to
-    /// hold. It is kept from then on. The rooms are forgotten where it is not known of which machine they are.
+    /// Makes the board ready for an ask: it follows the schedule where it is kept, without a look at the plans that it is known
+    /// to hold, and may hold plans that are over beside the live ones; with bounds it holds none. It is kept from then on. The
+    /// rooms are forgotten where it is not known of which machine they are.
     fn ready(&mut self, machine: &Machine, schedule: &Schedule, ask: &Ask, known: bool)
         requires known { known ≡ true → HoldsPlans machine.now self.old schedule.now.plans }
         requires rooms { known ≡ true → KeepsRooms self.old.work.rooms machine.now }
         requires served { Serves N.reading self.old machine.now }
         requires can_ask { CanAsk machine.now schedule.now.plans ask.now }
-        ensures loaded { IsLoadedFrom machine.now schedule.now.plans ask.entry.now
+        ensures held { IsHeldFrom machine.now schedule.now.plans ask.entry.now
             self.new.board.plans }
+        ensures exact { self.old.bounds ≡ true
+            → IsLoadedFrom machine.now schedule.now.plans ask.entry.now self.new.board.plans }
         ensures asked { self.new.board.ask ≡ Some ask.entry.now }
         ensures rests { IsAtRest N.reading self.new.board machine.now }
         ensures served { Serves N.reading self.new machine.now }
@@ -141,13 +144,14 @@ impl<N: Network> Engine<N> {
         ensures same { IsSameEngine N.reading self.old self.new }
         ensures trees { self.new.trees ≡ self.old.trees }
     {
+        let exact = self.bounds;
         if !known {
             self.work.forget();
         }
         let kept = self.kept;
         self.kept = true;
         if kept {
-            self.board.renew(machine, schedule, ask, known);
+            self.board.renew(machine, schedule, ask, known, exact);
         } else {
             self.board.load(machine, schedule, ask);
         }
@@ -236,8 +240,10 @@ impl<N: Network> Engine<N> {
     ) -> Result<Answered, Halt>
         requires served { Serves N.reading self.old machine.now }
         requires rooms { KeepsRooms self.old.work.rooms machine.now }
-        requires loaded { IsLoadedFrom machine.now schedule.old.plans ask.now
+        requires held { IsHeldFrom machine.now schedule.old.plans ask.now
             self.old.board.plans }
+        requires exact { self.old.bounds ≡ true
+            → IsLoadedFrom machine.now schedule.old.plans ask.now self.old.board.plans }
         requires asked { self.old.board.ask ≡ Some ask.now }
         requires rests { IsAtRest N.reading self.old.board machine.now }
         requires spare { ask.now.origin ≡ Feeder → 0 < schedule.old.spare }

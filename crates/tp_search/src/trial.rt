@@ -7,7 +7,7 @@ ghost use Rattle.tp_schedule.specs.Plans.{plan_of, without};
 ghost use Rattle.tp_schedule.specs.declared.parts.Plan.{Plan};
 ghost use Rattle.tp_placing.specs.Boards.{BoardValue, past_of};
 ghost use Rattle.tp_placing.specs.Standing.{Stands};
-ghost use Rattle.tp_placing.specs.Writing.{IsLoadedFrom};
+ghost use Rattle.tp_placing.specs.Writing.{IsHeldFrom, IsLoadedFrom};
 ghost use Rattle.tp_placing.specs.contracts.board.Board.{the_row};
 ghost use Rattle.tp_routes.specs.Tables.{KeepsRooms};
 ghost use Rattle.tp_search.specs.Boards.{HasMarks, IsBack};
@@ -42,8 +42,8 @@ pub struct Trial<'b, N: Network> {
     end: Tick,
 }
 
-/// Searches for an earliest plan of the ask for which the board is loaded, with no goal open and no mark in force. Without one
-/// the board is as before. Takes no memory.
+/// Searches for an earliest plan of the ask for which the board is loaded, with no goal open and no mark in force. The board
+/// may hold plans that are over beside the live ones. Without a plan the board is as before. Takes no memory.
 pub fn plan<'b, N: Network>(
     board: &'b mut Board<N>,
     work: &mut Workspace,
@@ -51,8 +51,8 @@ pub fn plan<'b, N: Network>(
     ask: &Ask,
 ) -> Result<Trial<'b, N>, NoPlan>
     requires work { IsFor work.old machine.now }
-    requires loaded { (plans : List Plan)
-        × IsLoadedFrom machine.now plans ask.now board.old.plans }
+    requires held { (plans : List Plan)
+        × IsHeldFrom machine.now plans ask.now board.old.plans }
     requires stands { Stands N.reading board.old machine.now }
     requires asked { board.old.ask ≡ Some ask.now }
     requires closed { board.old.steps ≡ [] }
@@ -63,11 +63,11 @@ pub fn plan<'b, N: Network>(
         (λ new. IsBack N.reading board.old new machine.now)) }
     ensures same_reference { IfOk result (λ trial. borrow_in trial ≡ board.entry.ghost_name) }
     ensures trial { IfOk result (IsTrial N.reading board.old machine.now) }
-    ensures end { (plans : List Plan) → IsLoadedFrom machine.now plans ask.entry.now
+    ensures end { (plans : List Plan) → IsHeldFrom machine.now plans ask.entry.now
         board.old.plans
         → IfOk result (λ trial. EndsEarliest machine.now plans ask.entry.now (end_in trial)) }
     ensures none { (plans : List Plan)
-        → IsLoadedFrom machine.now plans ask.entry.now board.old.plans
+        → IsHeldFrom machine.now plans ask.entry.now board.old.plans
         → IfErr result (IsNoPlan machine.now plans ask.entry.now work.old.nodes) }
     ensures work { StaysFor machine.now work.old work.new }
 {
@@ -84,8 +84,8 @@ pub(crate) fn find_plan<'b, N: Network>(
 ) -> Result<Trial<'b, N>, NoPlan>
     requires work { IsFor work.old machine.now }
     requires rooms { KeepsRooms work.old.rooms machine.now }
-    requires loaded { (plans : List Plan)
-        × IsLoadedFrom machine.now plans ask.now board.old.plans }
+    requires held { (plans : List Plan)
+        × IsHeldFrom machine.now plans ask.now board.old.plans }
     requires stands { Stands N.reading board.old machine.now }
     requires asked { board.old.ask ≡ Some ask.now }
     requires closed { board.old.steps ≡ [] }
@@ -96,11 +96,11 @@ pub(crate) fn find_plan<'b, N: Network>(
         (λ new. IsBack N.reading board.old new machine.now)) }
     ensures same_reference { IfOk result (λ trial. borrow_in trial ≡ board.entry.ghost_name) }
     ensures trial { IfOk result (IsTrial N.reading board.old machine.now) }
-    ensures end { (plans : List Plan) → IsLoadedFrom machine.now plans ask.entry.now
+    ensures end { (plans : List Plan) → IsHeldFrom machine.now plans ask.entry.now
         board.old.plans
         → IfOk result (λ trial. EndsEarliest machine.now plans ask.entry.now (end_in trial)) }
     ensures none { (plans : List Plan)
-        → IsLoadedFrom machine.now plans ask.entry.now board.old.plans
+        → IsHeldFrom machine.now plans ask.entry.now board.old.plans
         → IfErr result (IsNoPlan machine.now plans ask.entry.now work.old.nodes) }
     ensures work { StaysFor machine.now work.old work.new }
     ensures rooms { KeepsRooms work.new.rooms machine.now }
@@ -165,14 +165,14 @@ impl<N: Network> Trial<'_, N> {
         tree
     }
 
-    /// Writes the plan, and the times of all live plans with it, into the schedule that the board was loaded from, and takes
-    /// it off the board, which is then as before `plan`. Takes one spare plan for a new copy, and no memory. Answers whether
+    /// Writes the plan, and the times of all live plans with it, into the schedule of which the board holds the live plans, and
+    /// takes it off the board, which is then as before `plan`. Takes one spare plan for a new copy, and no memory. Answers whether
     /// another plan moved. The board holds the schedule as it was: whoever asks next renews it.
     pub fn commit(self, machine: &Machine, schedule: &mut Schedule) -> bool
         requires trial { (b : BoardValue N)
             × IsTrial N.reading b machine.now self }
-        requires loaded { IsSomeAnd (board_in self).ask
-            (λ ask. IsLoadedFrom machine.now schedule.old.plans ask (board_in self).plans) }
+        requires held { IsSomeAnd (board_in self).ask
+            (λ ask. IsHeldFrom machine.now schedule.old.plans ask (board_in self).plans) }
         requires spare { IsSomeAnd (board_in self).ask
             (λ ask. plan_of ask.sheet schedule.old.plans ≡ None → 0 < schedule.old.spare) }
         ensures earliest { IsSomeAnd (board_in self.entry).ask

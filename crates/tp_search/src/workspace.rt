@@ -3,7 +3,7 @@ ghost use Rattle.std.specs.Prelude.{ℕ, ◌≡◌, ◌≢◌, ◌≤◌, [], po
 ghost use Rattle.tp_schedule.specs.declared.parts.Plan.{Plan};
 ghost use Rattle.tp_placing.specs.Boards.{past_of};
 ghost use Rattle.tp_placing.specs.Standing.{Stands};
-ghost use Rattle.tp_placing.specs.Writing.{IsLoadedFrom};
+ghost use Rattle.tp_placing.specs.Writing.{IsHeldFrom, IsLoadedFrom};
 ghost use Rattle.tp_routes.specs.Index.{IsLeadIndex};
 ghost use Rattle.tp_routes.specs.Tables.{AreRooms, KeepsRooms};
 ghost use Rattle.tp_search.specs.Boards.{HasMarks, IsBack, IsReady};
@@ -100,8 +100,8 @@ impl Workspace {
     ) -> Outcome
         requires made { IsFor self.old machine.now }
         requires rooms { KeepsRooms self.old.rooms machine.now }
-        requires loaded { (plans : List Plan)
-            × IsLoadedFrom machine.now plans ask.now board.old.plans }
+        requires held { (plans : List Plan)
+            × IsHeldFrom machine.now plans ask.now board.old.plans }
         requires stands { Stands N.reading board.old machine.now }
         requires asked { board.old.ask ≡ Some ask.now }
         requires closed { board.old.steps ≡ [] }
@@ -155,8 +155,8 @@ impl Workspace {
         requires made { IsFor self.old machine.now }
         requires rooms { AreRooms machine.now ask.now self.old.rooms.sums }
         requires leads { IsLeadIndex machine.now self.old.rooms.firsts self.old.rooms.nexts }
-        requires loaded { (plans : List Plan)
-            × IsLoadedFrom machine.now plans ask.now board.old.plans }
+        requires held { (plans : List Plan)
+            × IsHeldFrom machine.now plans ask.now board.old.plans }
         requires ready { IsReady N.reading board.old machine.now ask.now }
         requires marks { HasMarks N.reading 7 board.old }
         requires none { HasNoLimit limit }

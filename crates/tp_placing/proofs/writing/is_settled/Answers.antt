@@ -43,7 +43,7 @@ returns g k so p is t a =
     let same : q ≡ p = same_Some q p (sym (there g c) ∙ is) in
     let items : k.as_slice.result.now ≡ q.points = k.as_slice.ensures.items ∙ ap (λ r. r.points) (sym k.index-plans-at.is) in
     let ticks = plan-ticks (g.N.Network.reading.net k.args.net.now) k.args.plans.now k.args.firsts.now k.args.at k.index-plans-at.result (record { 0 = 0 }) t (suc (length k.index-plans-at.result.acts)) k.requires.firsts k.requires.there k.index-plans-at.is a (omega arith) in
-    let own = k.have_times.ensures so a.solution a.least in
+    let own = k.have_times.ensures.same so a.solution a.least in
     let first = get_or k.args.firsts.now k.args.at (record { 0 = 0 }) in
     let points : ticks_from (at t q) 0 (suc (length q.acts)) ≡ q.points = sym ticks ∙ ap (λ n. ticks_from a.solution (get_or k.args.firsts.now k.args.at (record { 0 = 0 })).0 n) (sym (count g c)) ∙ sym own ∙ items in
     subst (λ r. timed_by t r ≡ r) same (ap (λ ps. with_points ps k.index-plans-at.result) points)

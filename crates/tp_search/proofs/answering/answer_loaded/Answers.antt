@@ -16,7 +16,7 @@ returns-in-Ok-clause-answer g c =
 
 -- what the search told of the whole schedule
 told : (g : _) (c : In-Err-Never g) → IsNoPlan c.args.machine.now c.args.schedule.now.plans c.args.ask.now c.args.work.now.nodes Never
-told g c = subst (IsNoPlan c.args.machine.now c.args.schedule.now.plans c.args.ask.now c.args.work.now.nodes) c.in-Err-Never.field-0-is (c.in-Err-Never.ensures.none c.args.schedule.now.plans c.requires.loaded)
+told g c = subst (IsNoPlan c.args.machine.now c.args.schedule.now.plans c.args.ask.now c.args.work.now.nodes) c.in-Err-Never.field-0-is (c.in-Err-Never.ensures.none c.args.schedule.now.plans c.requires.held)
 
 pub returns-in-Err-Never-clause-answer : goal.returns-in-Err-Never-clause-answer
 returns-in-Err-Never-clause-answer g c = (refl, (told g (goal.at.returns-in-Err-Never-clause-answer g c).In-Err-Never).0)

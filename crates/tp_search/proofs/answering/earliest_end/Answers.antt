@@ -5,7 +5,7 @@ use Rattle.tp_search.proofs.TrialFacts.{at-rest}
 use Rattle.tp_search.proofs.answering.earliest_end.Goals as goal
 
 pub returns-in-Ok-clause-end : goal.returns-in-Ok-clause-end
-returns-in-Ok-clause-end g c plans loaded = subst (EndsEarliest c.args.machine.now plans c.args.ask.now) (sym c.end-end.ensures) (c.in-Ok.ensures.end plans loaded)
+returns-in-Ok-clause-end g c plans from = subst (EndsEarliest c.args.machine.now plans c.args.ask.now) (sym c.end-end.ensures) (c.in-Ok.ensures.end plans from)
 
 pub returns-in-Ok-clause-rests : goal.returns-in-Ok-clause-rests
 returns-in-Ok-clause-rests g c =

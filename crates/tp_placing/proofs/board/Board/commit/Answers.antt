@@ -1,7 +1,8 @@
-use Rattle.std.proofs.Common.{arith, sym, refl, ap, ◌∙◌, subst, ◌≡◌, ℕ, ◌+◌, ◌-◌, ◌<◌, ◌≤◌, List, length, map, Some, None, IsSome, IsSomeAnd, All, AllPairs}
+use Rattle.std.proofs.Common.{arith, sym, refl, ap, ◌∙◌, subst, ◌≡◌, ℕ, ◌+◌, ◌-◌, ◌<◌, ◌≤◌, Bool, List, filter, length, map, Some, None, IsSome, IsSomeAnd, AllPairs}
 use Rattle.std.specs.List.{slice_get}
 use Rattle.std.proofs.lemmas.Option.{slice_get_read}
 use Rattle.tp_schedule.specs.Completions.{asked_plan, settled_ticks, total_of}
+use Rattle.tp_schedule.specs.Living.{is_live}
 use Rattle.tp_schedule.specs.Times.{timed_by}
 use Rattle.tp_schedule.specs.Plans.{IsEarlier, end_of_plan, plan_of, put_plan, without}
 use Rattle.tp_schedule.specs.Spots.{Ticks}
@@ -15,18 +16,19 @@ use Rattle.tp_constraints.specs.Suffixes.{Suffix}
 use Rattle.tp_placing.specs.declared.parts.Step.{Step}
 use Rattle.tp_placing.specs.Boards.{BoardValue, suffix_after}
 use Rattle.tp_placing.specs.Inside.{board_of}
+use Rattle.tp_placing.specs.Settled.{AreOfSchedule}
 use Rattle.tp_placing.specs.Standing.{StandsOn, board_table}
 use Rattle.tp_placing.specs.Ticks.{HasLeastTick}
-use Rattle.tp_placing.specs.Writing.{AreLeastTicks, CanCommit, IsLoadedFrom, retimed_in}
+use Rattle.tp_placing.specs.Writing.{AreLeastTicks, CanCommit, IsHeldFrom, retimed_in}
 use Rattle.tp_placing.proofs.StandFacts.{and-some, some-and, stands-ask}
 use Rattle.tp_placing.proofs.StepFacts.{some-steps}
 use Rattle.tp_constraints.proofs.Numbering.{number-at}
 use Rattle.tp_placing.proofs.ReadFacts.{end-point, least-tick}
 use Rattle.tp_placing.proofs.WriteCommit.{IsWritten, written-is}
+use Rattle.tp_placing.proofs.WriteHeld.{held-part}
 use Rattle.tp_placing.proofs.WritePlans.{none-after, none-before, planned-after}
 use Rattle.tp_placing.proofs.WritePoints.{least-of_plans}
 use Rattle.tp_placing.proofs.WriteReady.{IsReady, ready, ready-ticks}
-use Rattle.tp_placing.proofs.WriteWhole.{loaded-planned}
 use Rattle.tp_placing.proofs.board.Board.commit.Goals as goal
 use Rattle.tp_placing.proofs.board.Board.commit.Goals.{After-index-newest, After-plan_by_steps-plan, After-write_plan, After-write_times-moved}
 
@@ -39,10 +41,10 @@ board g c =
 stands-here : (g : _) (c : After-index-newest g) → StandsOn g.N.Network.reading (board g c) c.args.machine.now c.in-Some.ask
 stands-here g c = stands-ask g.N.Network.reading (board g c) c.args.machine.now c.in-Some.ask (rw (← c.self.view_is) at c.requires.stands) c.in-Some.is
 
-loaded-here : (g : _) (c : After-index-newest g) → IsLoadedFrom c.args.machine.now c.args.schedule.now.plans c.in-Some.ask c.self.inside.plans.items
+loaded-here : (g : _) (c : After-index-newest g) → IsHeldFrom c.args.machine.now c.args.schedule.now.plans c.in-Some.ask c.self.inside.plans.items
 loaded-here g c =
     let loaded = rw (← c.self.view_is) at c.requires.loaded in
-    subst (λ o. IsSomeAnd o (λ (ask : Ask). IsLoadedFrom c.args.machine.now c.args.schedule.now.plans ask c.self.inside.plans.items)) c.in-Some.is loaded
+    subst (λ o. IsSomeAnd o (λ (ask : Ask). IsHeldFrom c.args.machine.now c.args.schedule.now.plans ask c.self.inside.plans.items)) c.in-Some.is loaded
 
 complete-here : (g : _) (c : After-index-newest g) → IsSomeAnd (suffix_after c.self.inside.steps.items) (CanCommit c.args.machine.now c.self.inside.plans.items c.in-Some.ask)
 complete-here g c =
@@ -59,6 +61,16 @@ here g c =
     let at = slice_get_read a.steps.items (length a.steps.items) (c.len.result - 1) c.index-newest.result.now refl (omega arith) c.index-newest.ensures in
     let last : slice_get a.steps.items (length a.steps.items - 1) ≡ Some c.index-newest.result.now = ap (slice_get a.steps.items) (sym k) ∙ at in
     ready g.N.Network.reading (board g c) c.args.machine.now c.in-Some.ask c.index-newest.result.now (stands-here g c) (complete-here g c) last
+
+-- of what is held, what is live is the schedule's
+abbrev mine : (g : _) → After-index-newest g → Plan → Bool
+mine g c = is_live c.args.machine.now c.in-Some.ask.now
+
+part-here : (g : _) (c : After-index-newest g) → AreOfSchedule (g.N.Network.reading.net c.self.inside.net) c.self.inside.plans.items c.args.schedule.now.plans (mine g c)
+part-here g c =
+    let a = c.self.inside in
+    let h = here g c in
+    held-part c.args.machine.now c.args.schedule.now.plans a.plans.items c.in-Some.ask (loaded-here g c) h.x (g.N.Network.reading.net a.net) h.at.net
 
 pub overflow_sub-own : goal.overflow_sub-own
 overflow_sub-own g k =
@@ -83,7 +95,7 @@ write_times-moved-requires-clause-known g k =
 pub write_times-moved-requires-clause-planned : goal.write_times-moved-requires-clause-planned
 write_times-moved-requires-clause-planned g k =
     let c = (goal.at.write_times-moved-requires-clause-planned g k).After-index-newest in
-    subst (All (λ (p : Plan). plan_of p.sheet c.args.schedule.now.plans ≡ Some p)) (sym k.deref.ensures.value) (loaded-planned c.args.machine.now c.args.schedule.now.plans c.in-Some.ask c.self.inside.plans.items (loaded-here g c))
+    subst (λ ps. (test : Plan → Bool) × AreOfSchedule (g.N.Network.reading.net c.self.inside.net) ps c.args.schedule.now.plans test) (sym k.deref.ensures.value) (mine g c, part-here g c)
 
 pub plan_by_steps-plan-requires-clause-few : goal.plan_by_steps-plan-requires-clause-few
 plan_by_steps-plan-requires-clause-few g k =
@@ -129,20 +141,21 @@ ticks-here g c =
 abbrev Ticks-here : (g : _) → After-index-newest g → Ticks
 Ticks-here g c = ticks_by (board_table c.self.inside.plans.items (Some (here g c).x)) (here g c).at.solved.0
 
-times-now : (g : _) (k : After-write_times-moved g) → (t : Ticks) → AreLeastTicks (g.N.Network.reading.net k.self.inside.net) (table_of k.self.inside.plans.items) t → k.write_times-moved.new.schedule.plans ≡ map (retimed_in k.self.inside.plans.items t) k.args.schedule.now.plans
-times-now g k =
-    subst (λ ps. (t : Ticks) → AreLeastTicks (g.N.Network.reading.net k.self.inside.net) (table_of ps) t → k.write_times-moved.new.schedule.plans ≡ map (retimed_in ps t) k.args.schedule.now.plans) k.deref.ensures.value k.write_times-moved.ensures.times
+times-now : (g : _) (k : After-write_times-moved g) (test : Plan → Bool) → AreOfSchedule (g.N.Network.reading.net k.self.inside.net) k.self.inside.plans.items k.args.schedule.now.plans test
+    → (t : Ticks) → AreLeastTicks (g.N.Network.reading.net k.self.inside.net) (table_of k.self.inside.plans.items) t → k.write_times-moved.new.schedule.plans ≡ map (retimed_in (filter test k.self.inside.plans.items) t) k.args.schedule.now.plans
+times-now g k test part =
+    subst (λ ps. AreOfSchedule (g.N.Network.reading.net k.self.inside.net) ps k.args.schedule.now.plans test → (t : Ticks) → AreLeastTicks (g.N.Network.reading.net k.self.inside.net) (table_of ps) t → k.write_times-moved.new.schedule.plans ≡ map (retimed_in (filter test ps) t) k.args.schedule.now.plans) k.deref.ensures.value (k.write_times-moved.ensures.times test) part
 
 pub write_plan-requires-clause-capacity : goal.write_plan-requires-clause-capacity
 write_plan-requires-clause-capacity g k none =
     let at = goal.at.write_plan-requires-clause-capacity g k in
     let c = at.After-index-newest in
     let a = c.self.inside in
-    let times = times-now g at.After-write_times-moved (Ticks-here g c) (least-of_plans (g.N.Network.reading.net a.net) a.plans.items (here g c).x (Ticks-here g c) (ticks-here g c)) in
+    let times = times-now g at.After-write_times-moved (mine g c) (part-here g c) (Ticks-here g c) (least-of_plans (g.N.Network.reading.net a.net) a.plans.items (here g c).x (Ticks-here g c) (ticks-here g c)) in
     let spare = rw (← c.self.view_is) at c.requires.spare in
     let own_spare = subst (λ o. IsSomeAnd o (λ (ask : Ask). plan_of ask.sheet c.args.schedule.now.plans ≡ None → 0 < c.args.schedule.now.spare)) c.in-Some.is spare in
-    let none' : plan_of c.in-Some.ask.sheet (map (retimed_in a.plans.items (Ticks-here g c)) c.args.schedule.now.plans) ≡ None = sym (λ i. plan_of (k.plan_by_steps-plan.ensures.sheet i) (times i)) ∙ none in
-    let more = own_spare (none-before a.plans.items (Ticks-here g c) c.args.schedule.now.plans c.in-Some.ask.sheet none') in
+    let none' : plan_of c.in-Some.ask.sheet (map (retimed_in (filter (mine g c) a.plans.items) (Ticks-here g c)) c.args.schedule.now.plans) ≡ None = sym (λ i. plan_of (k.plan_by_steps-plan.ensures.sheet i) (times i)) ∙ none in
+    let more = own_spare (none-before (filter (mine g c) a.plans.items) (Ticks-here g c) c.args.schedule.now.plans c.in-Some.ask.sheet none') in
     let same = k.write_times-moved.ensures.spare in
     omega arith
 
@@ -156,7 +169,7 @@ plan-now g k =
 
 -- the schedule that these steps make
 written-here : (g : _) (c : After-index-newest g) (mid new : List Plan) (p : Plan)
-    → ((t : Ticks) → AreLeastTicks (g.N.Network.reading.net c.self.inside.net) (table_of c.self.inside.plans.items) t → mid ≡ map (retimed_in c.self.inside.plans.items t) c.args.schedule.now.plans)
+    → ((t : Ticks) → AreLeastTicks (g.N.Network.reading.net c.self.inside.net) (table_of c.self.inside.plans.items) t → mid ≡ map (retimed_in (filter (mine g c) c.self.inside.plans.items) t) c.args.schedule.now.plans)
     → ((t : Ticks) (x : Suffix) → suffix_after c.self.inside.steps.items ≡ Some x → AreLeastTicks (g.N.Network.reading.net c.self.inside.net) (board_table c.self.inside.plans.items (Some x)) t
     → p ≡ timed_by (settled_ticks c.in-Some.ask (total_of c.in-Some.ask x.choices) t) (asked_plan c.self.inside.plans.items c.in-Some.ask x.choices))
     → p.sheet ≡ c.in-Some.ask.sheet → new ≡ put_plan p (without p.sheet mid) → AllPairs IsEarlier new
@@ -184,27 +197,27 @@ pub returns-clause-least : goal.returns-clause-least
 returns-clause-least g k =
     let at = goal.at.returns-clause-least g k in
     let c = at.After-index-newest in
-    let w = written-here g c k.write_times-moved.new.schedule.plans k.write_plan.new.schedule.plans k.plan_by_steps-plan.result (times-now g at.After-write_times-moved) (plan-now g at.After-plan_by_steps-plan) k.plan_by_steps-plan.ensures.sheet k.write_plan.ensures.plans k.write_plan.ensures.in_order in
+    let w = written-here g c k.write_times-moved.new.schedule.plans k.write_plan.new.schedule.plans k.plan_by_steps-plan.result (times-now g at.After-write_times-moved (mine g c) (part-here g c)) (plan-now g at.After-plan_by_steps-plan) k.plan_by_steps-plan.ensures.sheet k.write_plan.ensures.plans k.write_plan.ensures.in_order in
     rw (← k.self.view_is) (and-some k.self.inside.ask k.in-Some.ask _ k.in-Some.is w.least)
 
 pub returns-clause-alternative : goal.returns-clause-alternative
 returns-clause-alternative g k =
     let at = goal.at.returns-clause-alternative g k in
     let c = at.After-index-newest in
-    let w = written-here g c k.write_times-moved.new.schedule.plans k.write_plan.new.schedule.plans k.plan_by_steps-plan.result (times-now g at.After-write_times-moved) (plan-now g at.After-plan_by_steps-plan) k.plan_by_steps-plan.ensures.sheet k.write_plan.ensures.plans k.write_plan.ensures.in_order in
+    let w = written-here g c k.write_times-moved.new.schedule.plans k.write_plan.new.schedule.plans k.plan_by_steps-plan.result (times-now g at.After-write_times-moved (mine g c) (part-here g c)) (plan-now g at.After-plan_by_steps-plan) k.plan_by_steps-plan.ensures.sheet k.write_plan.ensures.plans k.write_plan.ensures.in_order in
     rw (← k.self.view_is) (and-some k.self.inside.ask k.in-Some.ask _ k.in-Some.is (w.answer, end-here g c (end_of_plan w.answer.plan) w.ends))
 
 -- the plans when the asked one is written are those of the schedule at other ticks
-written-before : (g : _) (k : After-write_plan g) → k.write_times-moved.new.schedule.plans ≡ map (retimed_in k.self.inside.plans.items (Ticks-here g (goal.at.returns-clause-new_copy g k).After-index-newest)) k.args.schedule.now.plans
+written-before : (g : _) (k : After-write_plan g) → k.write_times-moved.new.schedule.plans ≡ map (retimed_in (filter (mine g (goal.at.returns-clause-new_copy g k).After-index-newest) k.self.inside.plans.items) (Ticks-here g (goal.at.returns-clause-new_copy g k).After-index-newest)) k.args.schedule.now.plans
 written-before g k =
     let at = goal.at.returns-clause-new_copy g k in
     let c = at.After-index-newest in
-    times-now g at.After-write_times-moved (Ticks-here g c) (least-of_plans (g.N.Network.reading.net c.self.inside.net) c.self.inside.plans.items (here g c).x (Ticks-here g c) (ticks-here g c))
+    times-now g at.After-write_times-moved (mine g c) (part-here g c) (Ticks-here g c) (least-of_plans (g.N.Network.reading.net c.self.inside.net) c.self.inside.plans.items (here g c).x (Ticks-here g c) (ticks-here g c))
 
 pub returns-clause-new_copy : goal.returns-clause-new_copy
 returns-clause-new_copy g k =
     let c = (goal.at.returns-clause-new_copy g k).After-index-newest in
-    let plans = k.self.inside.plans.items in
+    let plans = filter (mine g c) k.self.inside.plans.items in
     let t = Ticks-here g c in
     let written = written-before g k in
     let same = k.write_times-moved.ensures.spare in
@@ -217,7 +230,7 @@ returns-clause-new_copy g k =
 pub returns-clause-in_flight : goal.returns-clause-in_flight
 returns-clause-in_flight g k =
     let c = (goal.at.returns-clause-in_flight g k).After-index-newest in
-    let plans = k.self.inside.plans.items in
+    let plans = filter (mine g c) k.self.inside.plans.items in
     let t = Ticks-here g c in
     let written = written-before g k in
     let same = k.write_times-moved.ensures.spare in

@@ -1,4 +1,4 @@
-use Rattle.std.proofs.Common.{◌≡◌, ◌∙◌, All, List, refl, sym, subst}
+use Rattle.std.proofs.Common.{◌∙◌, All, List, refl, sym, subst}
 use Rattle.tp_schedule.specs.declared.parts.Plan.{Plan}
 use Rattle.tp_placing.specs.Loaded.{CanLoad}
 use Rattle.tp_placing.specs.Settled.{HasLeastPoints}

@@ -1,13 +1,13 @@
-use Rattle.std.proofs.Common.{sym, ◌∙◌, subst, ◌≡◌, map, filter, Some, All, AllPairs}
+use Rattle.std.proofs.Common.{Bool, sym, ◌∙◌, subst, ◌≡◌, map, filter, All, AllPairs}
 use Rattle.tp_schedule.specs.Living.{is_live}
-use Rattle.tp_schedule.specs.Plans.{IsEarlier, IsFormed, plan_of}
+use Rattle.tp_schedule.specs.Plans.{IsEarlier, IsFormed}
 use Rattle.tp_schedule.specs.Spots.{Ticks}
 use Rattle.tp_schedule.specs.declared.parts.Plan.{Plan}
 use Rattle.tp_constraints.specs.Numbers.{table_of}
+use Rattle.tp_placing.specs.Settled.{AreOfSchedule}
 use Rattle.tp_placing.specs.Writing.{AreLeastTicks, retimed_in}
 use Rattle.tp_placing.proofs.WriteReady.{timed-formed}
-use Rattle.tp_placing.proofs.WriteSettle.{live-settles, settled-few, settled-is}
-use Rattle.tp_placing.proofs.WriteWhole.{live-planned}
+use Rattle.tp_placing.proofs.WriteSettle.{live-part, live-settles, settled-few, settled-is}
 use Rattle.tp_placing.proofs.board.Board.settle.Goals as goal
 use Rattle.tp_placing.proofs.board.Board.settle.Goals.{After-deref-2}
 
@@ -32,11 +32,13 @@ write_times-requires-clause-in_order g c =
 
 pub write_times-requires-clause-planned : goal.write_times-requires-clause-planned
 write_times-requires-clause-planned g c =
-    subst (All (λ (p : Plan). plan_of p.sheet c.args.schedule.now.plans ≡ Some p)) (sym (plans-are g (goal.at.write_times-requires-clause-planned g c).After-deref-2)) (live-planned c.args.machine.now c.args.schedule.now.plans c.args.now c.requires.can_settle.plan_on)
+    subst (λ ps. (test : Plan → Bool) × AreOfSchedule (g.N.Network.reading.net c.self.inside.net) ps c.args.schedule.now.plans test) (sym (plans-are g (goal.at.write_times-requires-clause-planned g c).After-deref-2))
+    (is_live c.args.machine.now c.args.now, live-part c.args.machine.now c.args.now c.args.schedule.now.plans _ c.requires.can_settle)
 
 pub returns-clause-settled : goal.returns-clause-settled
 returns-clause-settled g c =
     let live = rw (← c.self.view_is) at c.load_live.ensures.plans in
     let loaded = rw (← c.self.view_is) at c.load_live.ensures.loaded in
     settled-is c.args.machine.now c.args.now c.args.schedule.now.plans c.self.inside.plans.items c.write_times.new.schedule.plans _ _ _ _ (g.N.Network.reading.net c.self.inside.net) c.requires.can_settle live loaded
-    (subst (λ ps. (t : Ticks) → AreLeastTicks (g.N.Network.reading.net c.self.inside.net) (table_of ps) t → c.write_times.new.schedule.plans ≡ map (retimed_in ps t) c.args.schedule.now.plans) c.deref.ensures.value c.write_times.ensures.times)
+    (subst (λ ps. (test : Plan → Bool) → AreOfSchedule (g.N.Network.reading.net c.self.inside.net) ps c.args.schedule.now.plans test → (t : Ticks) → AreLeastTicks (g.N.Network.reading.net c.self.inside.net) (table_of ps) t
+    → c.write_times.new.schedule.plans ≡ map (retimed_in (filter test ps) t) c.args.schedule.now.plans) c.deref.ensures.value c.write_times.ensures.times)

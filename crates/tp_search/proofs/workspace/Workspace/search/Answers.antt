@@ -1,6 +1,6 @@
 use Rattle.std.proofs.Common.{length, ap, sym, subst, ◌∙◌, arith}
 use Rattle.tp_placing.specs.Boards.{suffix_after}
-use Rattle.tp_placing.specs.Writing.{IsLoadedFrom}
+use Rattle.tp_placing.specs.Writing.{IsHeldFrom}
 use Rattle.tp_search.specs.Boards.{IsBack}
 use Rattle.tp_search.specs.Outcomes.{IsOutcome}
 use Rattle.tp_search.specs.Workspaces.{WorkspaceValue}
@@ -11,7 +11,7 @@ use Rattle.tp_search.proofs.workspace.Workspace.search.Goals as goal
 use Rattle.tp_search.proofs.workspace.Workspace.search.Goals.{In-Again}
 
 pub renew-requires-clause-origin : goal.renew-requires-clause-origin
-renew-requires-clause-origin g c = asked-known c.args.machine.now c.requires.loaded.0 c.args.ask.now c.requires.loaded.1.can_ask.asked
+renew-requires-clause-origin g c = asked-known c.args.machine.now c.requires.held.0 c.args.ask.now c.requires.held.1.can_ask.asked
 
 pub search_to-outcome-requires-clause-ready : goal.search_to-outcome-requires-clause-ready
 search_to-outcome-requires-clause-ready g c = record { stands = c.requires.stands; asked = c.requires.asked; closed = ap suffix_after c.requires.closed }
@@ -23,10 +23,10 @@ search_to-outcome-requires-clause-marks g c = omega (arith, c.requires.marks, ap
 back : (g : _) (c : In-Again g) → IsBack g.N.Network.reading c.args.board.now c.search_to-outcome.new.board c.args.machine.now
 back g c = c.in-Again.ensures.outcome
 
-pub search_to-requires-clause-loaded : goal.search_to-requires-clause-loaded
-search_to-requires-clause-loaded g c =
-    let r = c.requires.loaded in
-    (r.0, subst (IsLoadedFrom c.args.machine.now r.0 c.args.ask.now) (sym (back g (goal.at.search_to-requires-clause-loaded g c).In-Again).loaded.plans) r.1)
+pub search_to-requires-clause-held : goal.search_to-requires-clause-held
+search_to-requires-clause-held g c =
+    let r = c.requires.held in
+    (r.0, subst (IsHeldFrom c.args.machine.now r.0 c.args.ask.now) (sym (back g (goal.at.search_to-requires-clause-held g c).In-Again).loaded.plans) r.1)
 
 pub search_to-requires-clause-ready : goal.search_to-requires-clause-ready
 search_to-requires-clause-ready g c =

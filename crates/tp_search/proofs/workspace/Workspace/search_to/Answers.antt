@@ -14,7 +14,7 @@ find_goals-begun-requires-clause-posed g c = record {
   table = subst (λ (w : WorkspaceValue). IsFor w c.args.machine.now) (sym c.self.view_is) c.requires.made;
   rooms = subst (λ (w : WorkspaceValue). AreRooms c.args.machine.now c.args.ask.now w.rooms.sums) (sym c.self.view_is) c.requires.rooms;
   leads = subst (λ (w : WorkspaceValue). IsLeadIndex c.args.machine.now w.rooms.firsts w.rooms.nexts) (sym c.self.view_is) c.requires.leads;
-  origin = asked-known c.args.machine.now c.requires.loaded.0 c.args.ask.now c.requires.loaded.1.can_ask.asked;
+  origin = asked-known c.args.machine.now c.requires.held.0 c.args.ask.now c.requires.held.1.can_ask.asked;
 }
 
 pub search-requires-clause-posed : goal.search-requires-clause-posed
@@ -22,7 +22,7 @@ search-requires-clause-posed g c = record {
   table = subst (λ (w : WorkspaceValue). IsFor w c.args.machine.now) (sym c.self.view_is) c.requires.made;
   rooms = subst (λ (w : WorkspaceValue). AreRooms c.args.machine.now c.args.ask.now w.rooms.sums) (sym c.self.view_is) c.requires.rooms;
   leads = subst (λ (w : WorkspaceValue). IsLeadIndex c.args.machine.now w.rooms.firsts w.rooms.nexts) (sym c.self.view_is) c.requires.leads;
-  origin = asked-known c.args.machine.now c.requires.loaded.0 c.args.ask.now c.requires.loaded.1.can_ask.asked;
+  origin = asked-known c.args.machine.now c.requires.held.0 c.args.ask.now c.requires.held.1.can_ask.asked;
 }
 
 pub search-requires-clause-over : goal.search-requires-clause-over
@@ -39,7 +39,7 @@ search-requires-clause-searching g c =
     let empty = c.set_limit.ensures ∙ ap (λ (s : StoreValue). record s { limit = c.args.limit }) c.clear.ensures in (
       0,
       subst (λ ps. IsSearching c.args.machine.now ps c.args.ask.now c.find_goals-begun.new.goals.items c.set_limit.new.self 0) (sym (over-plans g.N.Network.reading c.args.board.now c.find_goals-begun.new.board c.args.machine.now c.args.ask.now c.find_goals-begun.result c.find_goals-begun.ensures.over))
-          (begins-with c.args.machine.now c.args.board.now.plans c.args.ask.now c.find_goals-begun.new.goals.items c.set_limit.new.self a.store.capacity a.store.width c.args.limit c.requires.loaded.0 c.requires.none c.find_goals-begun.ensures.goals empty wide c.requires.loaded.1.can_ask.has_time),
+          (begins-with c.args.machine.now c.args.board.now.plans c.args.ask.now c.find_goals-begun.new.goals.items c.set_limit.new.self a.store.capacity a.store.width c.args.limit c.requires.held.0 c.requires.none c.find_goals-begun.ensures.goals empty wide c.requires.held.1.can_ask.has_time),
     )
 
 pub returns-clause-outcome : goal.returns-clause-outcome
