@@ -7,16 +7,16 @@ use Rattle.tp_machine.specs.declared.parts.Action.{Action}
 use Rattle.tp_machine.specs.declared.parts.HoldRule.{HoldRule}
 use Rattle.tp_machine.specs.declared.machine.Machine.{Machine}
 use Rattle.tp_schedule.specs.Answers.{IsAskedFrom, kept_of}
-use Rattle.tp_schedule.specs.Holding.{holds_of_act}
+use Rattle.tp_schedule.specs.Holders.{holds_of_act}
 use Rattle.tp_schedule.specs.Legality.{IsLegal}
 use Rattle.tp_schedule.specs.Plans.{IsTimedPlan}
-use Rattle.tp_schedule.specs.Planning.{CanAsk, CanPlanOn, IsOpenGoal, HasTimeFrom}
+use Rattle.tp_schedule.specs.PlannerAnswers.{CanAsk, CanPlanOn, IsOpenGoal, HasTimeFrom}
 use Rattle.tp_schedule.specs.declared.parts.Ask.{Ask}
 use Rattle.tp_schedule.specs.declared.parts.Origin.TheVariants.{Feeder as FromFeeder}
 use Rattle.tp_schedule.specs.declared.parts.Plan.{Plan}
 use Rattle.tp_constraints.specs.Suffixes.{Suffix, with_action}
 use Rattle.tp_placing.specs.Calls.{CanGoOn, CanPlace}
-use Rattle.tp_placing.specs.Standing.{own_points}
+use Rattle.tp_placing.specs.LoadedBoard.{own_points}
 
 legal-none : (machine : Machine) → IsLegal machine []
 legal-none machine = record {

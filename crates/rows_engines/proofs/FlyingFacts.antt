@@ -4,18 +4,18 @@ use Rattle.std.proofs.lemmas.List.Sums.{count_by-le-length}
 use Rattle.std.proofs.lemmas.Option.{get_or_from_slice_get}
 use Rattle.tp_machine.specs.declared.parts.State.{State}
 use Rattle.tp_machine.specs.declared.machine.Machine.{Machine}
-use Rattle.tp_schedule.specs.Living.{is_live}
-use Rattle.tp_schedule.specs.Planning.{CanAsk, CanPlanOn, IsOpenGoal}
+use Rattle.tp_schedule.specs.LivePlans.{is_live}
+use Rattle.tp_schedule.specs.PlannerAnswers.{CanAsk, CanPlanOn, IsOpenGoal}
 use Rattle.tp_schedule.specs.Plans.{plan_of, put_plan, without}
 use Rattle.tp_schedule.specs.Routes.{IsFreshStart, walk}
 use Rattle.tp_schedule.specs.declared.parts.Goal.{Goal}
 use Rattle.tp_schedule.specs.declared.parts.Origin.TheVariants.{Front as FromFront}
 use Rattle.tp_schedule.specs.declared.parts.Plan.{Plan}
 use Rattle.tp_schedule.proofs.CopyFacts.{same_copy-refl}
-use Rattle.tp_turn.proofs.CutPlans.{IsLeft-cut_after}
-use Rattle.tp_turn.proofs.LeftPlans.{AreLeft, IsLegal-left, KeepsFloors-left, KeepsHorizon-left}
-use Rattle.tp_turn.proofs.LeftPlans.AreLeft.{none, more}
-use Rattle.rows_engines.specs.Flying.{IsFrontOfFew, ask_after, front_plan}
+use Rattle.tp_event_rules.proofs.CutPlans.{IsLeft-cut_after}
+use Rattle.tp_event_rules.proofs.LeftPlans.{AreLeft, IsLegal-left, KeepsFloors-left, KeepsHorizon-left}
+use Rattle.tp_event_rules.proofs.LeftPlans.AreLeft.{none, more}
+use Rattle.rows_engines.specs.Flights.{IsFrontOfFew, ask_after, front_plan}
 use Rattle.rows_engines.proofs.LayingFacts.{one-only, only-live, open-goal, length-without}
 
 -- one plan alone

@@ -5,7 +5,7 @@ use Rattle.std.proofs.lemmas.List.Elements.{All-head}
 use Rattle.std.proofs.lemmas.List.Sums.{count_by-le-length, length-filter}
 use Rattle.tp_base.specs.Readings.{Reading}
 use Rattle.tp_base.proofs.MarkFacts.{last_mark}
-use Rattle.tp_machine.specs.Using.{action_at}
+use Rattle.tp_machine.specs.ModuleUse.{action_at}
 use Rattle.tp_machine.specs.declared.parts.ActId.{ActId}
 use Rattle.tp_machine.specs.declared.parts.Action.{Action}
 use Rattle.tp_machine.specs.declared.parts.HoldRule.{HoldRule}
@@ -13,10 +13,10 @@ use Rattle.tp_machine.specs.declared.parts.State.{State}
 use Rattle.tp_machine.specs.declared.machine.Machine.{Machine}
 use Rattle.tp_schedule.specs.Answers.{IsAlternative, IsAskedFrom, kept_from, kept_of, follows_front}
 use Rattle.tp_schedule.specs.Choices.{AreWithin, acts_of, placed, put_places}
-use Rattle.tp_schedule.specs.Holding.{holds_of_act}
+use Rattle.tp_schedule.specs.Holders.{holds_of_act}
 use Rattle.tp_schedule.specs.Legality.{IsLegal}
-use Rattle.tp_schedule.specs.Living.{is_live}
-use Rattle.tp_schedule.specs.Planning.{CanAsk, CanPlanOn, CanSettle, HasTimeFrom, IsOpenGoal, last_tick}
+use Rattle.tp_schedule.specs.LivePlans.{is_live}
+use Rattle.tp_schedule.specs.PlannerAnswers.{CanAsk, CanPlanOn, CanSettle, HasTimeFrom, IsOpenGoal, last_tick}
 use Rattle.tp_schedule.specs.Plans.{IsEarlier, is_before, is_same_copy, put_plan, without}
 use Rattle.tp_schedule.specs.Routes.{is_act_allowed}
 use Rattle.tp_schedule.specs.Spots.{Slot, Spot, slot_order}
@@ -34,11 +34,11 @@ use Rattle.tp_constraints.specs.Suffixes.{Suffix, with_action, with_place}
 use Rattle.tp_placing.specs.Boards.{BoardUntouched, BoardContent, BoardValue, untouched_of, content_of, past_of, suffix_after, suffix_of}
 use Rattle.tp_placing.specs.Calls.{CanGoOn, CanPlace, IsSameLoad}
 use Rattle.tp_placing.specs.Laws.{MarkKeeps, UndoKeeps}
-use Rattle.tp_placing.specs.Standing.{Stands, order_after}
+use Rattle.tp_placing.specs.LoadedBoard.{Stands, order_after}
 use Rattle.tp_placing.proofs.StandFacts.{and-some, some-and}
 use Rattle.tp_placing.proofs.WriteAsked.{none-planned}
 use Rattle.tp_constraints.proofs.Lists.{contains-get}
-use Rattle.rows_engines.specs.Laying.{IsLaid, IsPut, IsStepTo, LeadsFrom}
+use Rattle.rows_engines.specs.LaidWays.{IsLaid, IsPut, IsStepTo, LeadsFrom}
 
 -- an action of one hold
 one-hold : (holds : List HoldRule) (rule : HoldRule) → length holds ≡ 1 → slice_get holds 0 ≡ Some rule → holds ≡ rule ∷ []

@@ -1,7 +1,7 @@
 -- What a search leaves of a schedule that can be planned on.
 use Rattle.std.proofs.Common.{◌≡◌, ℕ, List, sym, subst}
 use Rattle.tp_machine.specs.declared.machine.Machine.{Machine}
-use Rattle.tp_schedule.specs.Planning.{CanPlanOn, IsAnswer}
+use Rattle.tp_schedule.specs.PlannerAnswers.{CanPlanOn, IsAnswer}
 use Rattle.tp_schedule.specs.declared.parts.Ask.{Ask}
 use Rattle.tp_schedule.specs.declared.parts.Origin.TheVariants.{Feeder as FromFeeder}
 use Rattle.tp_schedule.specs.declared.parts.Plan.{Plan}

@@ -11,7 +11,7 @@ use Rattle.tp_placing.specs.Boards.{BoardValue}
 use Rattle.tp_placing.specs.Causes.{IsNamedHop, limit_tag}
 use Rattle.tp_placing.specs.Reasons.{HasEndReason, HasReason, IsEndReason, IsReason, with_limit}
 use Rattle.tp_placing.proofs.StandFacts.{some-and}
-use Rattle.rows_engines.specs.Telling.{HaveCauses, IsTold}
+use Rattle.rows_engines.specs.NamedReasons.{HaveCauses, IsTold}
 
 module _ {N : Type 0} (b : BoardValue N) where
   have_causes-hops : (machine : Machine) (ask : Ask) (x : Suffix) (edges : List Edge) → All (IsNamedHop machine b.plans ask x b.causes) edges → HaveCauses b edges

@@ -5,9 +5,9 @@ use Rattle.tp_machine.specs.declared.machine.Machine.{Machine}
 use Rattle.tp_schedule.specs.declared.parts.Ask.{Ask}
 use Rattle.tp_schedule.specs.declared.parts.Plan.{Plan}
 use Rattle.tp_placing.specs.Boards.{BoardContent, BoardValue}
-use Rattle.tp_placing.specs.Writing.{IsHeldFrom}
+use Rattle.tp_placing.specs.Commits.{IsHeldFrom}
 use Rattle.tp_search.specs.Boards.{IsBack}
-use Rattle.rows_engines.specs.Trying.{IsReady}
+use Rattle.rows_engines.specs.ReadyBoard.{IsReady}
 
 module _ {N : Type 0} (reading : Reading N) where
   pub ready-back : (b b' : BoardValue N) (machine : Machine) (plans : List Plan) (ask : Ask) → IsBack reading b b' machine

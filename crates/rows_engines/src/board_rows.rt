@@ -1,9 +1,9 @@
 //! The board on the machine DUO, with an empty schedule.
 ghost use Rattle.std.specs.Prelude.{◌≡◌, ◌+◌, ◌<◌, ◌≤◌, [], length, OnOk};
-ghost use Rattle.tp_placing.specs.Standing.{IsMadeFor};
-ghost use Rattle.tp_schedule.specs.Planning.{IsOpenGoal};
+ghost use Rattle.tp_placing.specs.LoadedBoard.{IsMadeFor};
+ghost use Rattle.tp_schedule.specs.PlannerAnswers.{IsOpenGoal};
 ghost use Rattle.tp_schedule.specs.declared.parts.Ask.{Ask};
-ghost use Rattle.rows_engines.specs.Asking.{IsForNew, IsOpen};
+ghost use Rattle.rows_engines.specs.BoardAsk.{IsForNew, IsOpen};
 
 use crate::by_hand::{FEED, OUT, PRINT1, PRINT2, ask_for, goal_of, name_of};
 use std::alloc::Global;

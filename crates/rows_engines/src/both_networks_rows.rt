@@ -1,6 +1,6 @@
 //! The same asks over the plain network and over the live one.
 ghost use Rattle.std.specs.Prelude.{◌≡◌, IfOk, OnOk};
-ghost use Rattle.tp_schedule.specs.Planning.{CanPlanOn};
+ghost use Rattle.tp_schedule.specs.PlannerAnswers.{CanPlanOn};
 
 use crate::engine_rows::{MONO, ask_sheet, engine_for};
 use rows_machine::machines::{DUO, LOOP, TAIL, machine_of};

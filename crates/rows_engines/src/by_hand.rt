@@ -1,7 +1,7 @@
 //! The machines of the rows, and what is asked on DUO.
 ghost use Rattle.std.specs.Prelude.{◌≡◌, [], IfOk};
-ghost use Rattle.tp_placing.specs.Standing.{IsMadeFor};
-ghost use Rattle.tp_schedule.specs.Planning.{IsOpenGoal};
+ghost use Rattle.tp_placing.specs.LoadedBoard.{IsMadeFor};
+ghost use Rattle.tp_schedule.specs.PlannerAnswers.{IsOpenGoal};
 ghost use Rattle.tp_schedule.specs.declared.parts.Ask.{Ask};
 ghost use Rattle.tp_schedule.specs.declared.parts.Origin.TheVariants.{Feeder};
 

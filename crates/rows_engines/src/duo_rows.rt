@@ -1,6 +1,6 @@
 //! All rows on the machine DUO, over one machine, one board and one table of rooms.
 ghost use Rattle.std.specs.Prelude.{◌≡◌, ◌≤◌, OnOk};
-ghost use Rattle.tp_placing.specs.Standing.{IsMadeFor};
+ghost use Rattle.tp_placing.specs.LoadedBoard.{IsMadeFor};
 ghost use Rattle.tp_routes.specs.Tables.{IsMadeFor as IsTableFor};
 
 use crate::board_rows::bounds;

@@ -1,14 +1,14 @@
 //! A planner that is asked and settles on the machine DUO, and the trial of a plan.
 ghost use Rattle.std.specs.Prelude.{◌≡◌, ◌<◌, ◌≤◌, [], IfOk, List, OnOk};
-ghost use Rattle.tp_placing.specs.Standing.{IsMadeFor};
-ghost use Rattle.tp_schedule.specs.Planning.{CanAsk, CanPlanOn, IsOpenGoal};
+ghost use Rattle.tp_placing.specs.LoadedBoard.{IsMadeFor};
+ghost use Rattle.tp_schedule.specs.PlannerAnswers.{CanAsk, CanPlanOn, IsOpenGoal};
 ghost use Rattle.tp_schedule.specs.declared.parts.Origin.TheVariants.{Feeder};
 ghost use Rattle.tp_schedule.specs.declared.parts.Plan.{Plan};
 ghost use Rattle.tp_search.specs.Workspaces.{IsFor, StaysFor};
-ghost use Rattle.rows_engines.specs.Trying.{IsReady};
+ghost use Rattle.rows_engines.specs.ReadyBoard.{IsReady};
 
 use crate::by_hand::{ask_for, board_for, goal_of, name_of};
-use crate::laying::is_askable;
+use crate::laid_ways::is_askable;
 use crate::planned_rows::points_of;
 use crate::search_rows::work_for;
 use rows_machine::machines::{DUO, machine_of};

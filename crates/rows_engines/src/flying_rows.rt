@@ -1,12 +1,12 @@
 //! A copy in flight on the machine DUO, whose last action is planned behind its front.
 ghost use Rattle.std.specs.Prelude.{OnOk, IfOk};
-ghost use Rattle.tp_placing.specs.Standing.{IsMadeFor};
+ghost use Rattle.tp_placing.specs.LoadedBoard.{IsMadeFor};
 ghost use Rattle.tp_routes.specs.Tables.{IsMadeFor as IsTableFor};
-ghost use Rattle.tp_schedule.specs.Planning.{CanPlanOn};
+ghost use Rattle.tp_schedule.specs.PlannerAnswers.{CanPlanOn};
 
 use crate::by_hand::{OUT, goal_of};
-use crate::flying::{one_flying, rest_of};
-use crate::laying::{begin, lay};
+use crate::in_flight::{one_flying, rest_of};
+use crate::laid_ways::{begin, lay};
 use crate::planned_rows::one_planned;
 use crate::rooms_rows::state_at;
 use std::alloc::Global;

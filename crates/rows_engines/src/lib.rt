@@ -12,13 +12,17 @@ mod duo_rows;
 #[cfg(test)]
 mod engine_rows;
 #[cfg(test)]
-mod flying;
-#[cfg(test)]
 mod flying_rows;
 #[cfg(test)]
-mod laying;
+mod in_flight;
+#[cfg(test)]
+mod laid_ways;
 #[cfg(test)]
 mod long_chain_rows;
+#[cfg(test)]
+mod named_reasons;
+#[cfg(test)]
+mod network_probes;
 #[cfg(test)]
 mod network_rows;
 #[cfg(test)]
@@ -26,15 +30,11 @@ mod planned_rows;
 #[cfg(test)]
 mod pool_rows;
 #[cfg(test)]
-mod probing;
-#[cfg(test)]
 mod reason_rows;
 #[cfg(test)]
 mod rooms_rows;
 #[cfg(test)]
 mod search_rows;
-#[cfg(test)]
-mod telling;
 #[cfg(test)]
 mod timelines_rows;
 #[cfg(test)]

@@ -2,7 +2,7 @@
 ghost use Rattle.std.specs.Prelude.{◌≡◌, ℕ, ◌+◌, ◌<◌, ◌≤◌, [], length};
 ghost use Rattle.tp_base.specs.Net.{empty_net};
 
-use crate::probing::{go_back, set_mark};
+use crate::network_probes::{go_back, set_mark};
 use std::process::Abort;
 use std::test::Fail;
 use tp_base::{Edge, Mark, Network, PointId, Undo};

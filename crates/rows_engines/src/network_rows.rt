@@ -3,7 +3,7 @@ ghost use Rattle.std.specs.Prelude.{◌≡◌, ℕ, ◌+◌, ◌<◌, ◌≤◌,
 ghost use Rattle.tp_base.specs.Net.{empty_net};
 ghost use Rattle.rows_engines.specs.Rows.{edge_of, three_points};
 
-use crate::probing::{could_take, go_back, set_mark};
+use crate::network_probes::{could_take, go_back, set_mark};
 use std::alloc::Global;
 use std::process::Abort;
 use std::test::Fail;

@@ -1,14 +1,14 @@
 //! Plans that are committed on the machine DUO, one after the other.
 ghost use Rattle.std.specs.Prelude.{◌≡◌, ◌≤◌, [], length, IfOk, OnOk};
-ghost use Rattle.tp_placing.specs.Standing.{IsMadeFor};
+ghost use Rattle.tp_placing.specs.LoadedBoard.{IsMadeFor};
 ghost use Rattle.tp_routes.specs.Tables.{AreRooms, IsMadeFor as IsTableFor};
 ghost use Rattle.tp_schedule.specs.Answers.{kept_of};
-ghost use Rattle.tp_schedule.specs.Planning.{CanPlanOn, IsOpenGoal};
+ghost use Rattle.tp_schedule.specs.PlannerAnswers.{CanPlanOn, IsOpenGoal};
 ghost use Rattle.tp_schedule.specs.declared.parts.Origin.TheVariants.{Feeder};
-ghost use Rattle.rows_engines.specs.Laying.{IsLaid};
+ghost use Rattle.rows_engines.specs.LaidWays.{IsLaid};
 
 use crate::by_hand::{FEED, OUT, PRINT1, PRINT2, ask_for, goal_of, name_of};
-use crate::laying::{
+use crate::laid_ways::{
     LaidWay, begin, bound_with, bounds_where_late, follow, is_askable, lay, tried_at,
 };
 use std::alloc::Global;

@@ -1,12 +1,12 @@
 //! Why the second of two sheets can't be where it is refused on the machine DUO, by name.
 ghost use Rattle.std.specs.Prelude.{OnOk};
-ghost use Rattle.tp_placing.specs.Standing.{IsMadeFor};
+ghost use Rattle.tp_placing.specs.LoadedBoard.{IsMadeFor};
 ghost use Rattle.tp_routes.specs.Tables.{IsMadeFor as IsTableFor};
 
 use crate::by_hand::{OUT, name_of};
-use crate::laying::bounds_where_late;
+use crate::laid_ways::bounds_where_late;
+use crate::named_reasons::{NamedChain, reason_by, reason_of};
 use crate::planned_rows::second_begun;
-use crate::telling::{NamedChain, reason_by, reason_of};
 use std::alloc::Global;
 use std::process::Abort;
 use std::test::Fail;

@@ -1,12 +1,12 @@
 //! Asks on the machine DUO that are answered by a search: how soon, where engines are out, and with few nodes.
 ghost use Rattle.std.specs.Prelude.{◌≡◌, ◌≤◌, [], IfOk, OnOk};
-ghost use Rattle.tp_placing.specs.Standing.{IsMadeFor};
-ghost use Rattle.tp_schedule.specs.Planning.{CanPlanOn, IsOpenGoal};
+ghost use Rattle.tp_placing.specs.LoadedBoard.{IsMadeFor};
+ghost use Rattle.tp_schedule.specs.PlannerAnswers.{CanPlanOn, IsOpenGoal};
 ghost use Rattle.tp_schedule.specs.declared.parts.Origin.TheVariants.{Feeder};
 ghost use Rattle.tp_search.specs.Workspaces.{IsFor};
 
 use crate::by_hand::{ask_for, goal_of, name_of};
-use crate::laying::is_askable;
+use crate::laid_ways::is_askable;
 use crate::planned_rows::points_of;
 use std::alloc::Global;
 use std::process::Abort;

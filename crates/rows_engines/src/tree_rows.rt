@@ -1,6 +1,6 @@
 //! Trees that an engine with bounds shows, looked at by the checker of trees, which knows no network and no search.
 ghost use Rattle.std.specs.Prelude.{OnOk};
-ghost use Rattle.tp_schedule.specs.Planning.{CanPlanOn};
+ghost use Rattle.tp_schedule.specs.PlannerAnswers.{CanPlanOn};
 
 use crate::engine_rows::{MONO, ask_sheet, engine_for, first_tray_ask};
 use rows_machine::machines::{DUO, TAIL, machine_of};

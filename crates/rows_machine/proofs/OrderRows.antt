@@ -3,8 +3,8 @@ use Rattle.std.proofs.Common.{◌≡◌, ℕ, true, false, List, [], ◌∷◌, 
 use Rattle.tp_machine.specs.Modes.{gap_at}
 use Rattle.tp_machine.specs.declared.parts.ActId.{ActId}
 use Rattle.tp_machine.specs.declared.parts.Sheet.{Sheet}
-use Rattle.tp_schedule.specs.Holding.{held}
-use Rattle.tp_schedule.specs.Living.{is_live}
+use Rattle.tp_schedule.specs.Holders.{held}
+use Rattle.tp_schedule.specs.LivePlans.{is_live}
 use Rattle.tp_schedule.specs.Spots.{order_of}
 use Rattle.tp_schedule.specs.declared.parts.Goal.TheVariants.{Tray}
 use Rattle.tp_schedule.specs.declared.parts.Hold.{Hold}

@@ -2,7 +2,7 @@
 #![tactic(auto)]
 
 #[cfg(test)]
-mod deciding;
+mod checked_schedules;
 pub mod machines;
 #[cfg(test)]
 mod prints;

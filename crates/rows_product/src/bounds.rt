@@ -1,7 +1,7 @@
 //! The worked scripts with bounds: behind each plan with its moves and each none stands a tree, and nothing else changes. Each
 //! tree is read, and printed back the same.
 
-use crate::running::{Given, SOUND, run};
+use crate::program_runs::{Given, SOUND, run};
 use rows_machine::worked::WORKED;
 use std::alloc::Global;
 use std::test::Fail;

@@ -1,6 +1,6 @@
 //! An outside that fails at its nth call.
 
-use crate::running::{Outside, SOUND, on_duo, run};
+use crate::program_runs::{Outside, SOUND, on_duo, run};
 use std::test::Fail;
 use tp_program::Status;
 

@@ -4,21 +4,21 @@
 #[cfg(test)]
 mod bounds;
 #[cfg(test)]
-mod checking;
+mod checked_logs;
 #[cfg(test)]
-mod composing;
-#[cfg(test)]
-mod farming;
+mod composed_racks;
 #[cfg(test)]
 mod faults;
 #[cfg(test)]
 mod long_scripts;
 #[cfg(test)]
-mod running;
+mod program_runs;
 #[cfg(test)]
-mod saving;
+mod refused_farms;
 #[cfg(test)]
-mod soaking;
+mod saved_sessions;
+#[cfg(test)]
+mod soak_cases;
 #[cfg(test)]
 mod statuses;
 #[cfg(test)]

@@ -1,6 +1,6 @@
 //! Scripts of a day: forty sheets and a jam on the way, and more sheets than may be planned at a time.
 
-use crate::running::{Given, RUN, SOUND, run};
+use crate::program_runs::{Given, RUN, SOUND, run};
 use memchr::memmem;
 use rows_machine::machines::LINE;
 use std::alloc::Global;

@@ -1,6 +1,6 @@
 //! Words, machine texts and lines that are refused, and in which order it is looked at them.
 
-use crate::running::{Given, RUN, SOUND, on_duo, run};
+use crate::program_runs::{Given, RUN, SOUND, on_duo, run};
 use rows_machine::machines::DUO;
 use std::alloc::Global;
 use std::test::Fail;

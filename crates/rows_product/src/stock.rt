@@ -1,6 +1,6 @@
 //! Feeders with a stock, and refills, through the program.
 
-use crate::running::{Given, RUN, SOUND, run};
+use crate::program_runs::{Given, RUN, SOUND, run};
 use rows_machine::machines::LINE;
 use std::alloc::Global;
 use std::test::Fail;

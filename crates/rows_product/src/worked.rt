@@ -1,6 +1,6 @@
 //! The worked scripts through the program, and budgets.
 
-use crate::running::{Given, RUN, SOUND, run};
+use crate::program_runs::{Given, RUN, SOUND, run};
 use rows_machine::machines::{DUO, TAIL};
 use rows_machine::worked::WORKED;
 use std::alloc::Global;

@@ -29,10 +29,10 @@ use Rattle.tp_schedule.specs.declared.parts.Origin.TheVariants.{Feeder as FromFe
 use Rattle.tp_schedule.specs.declared.parts.Plan.{Plan}
 use Rattle.tp_schedule.specs.declared.parts.SheetId.{SheetId}
 use Rattle.tp_schedule.specs.declared.records.SheetName.{SheetName}
-use Rattle.tp_trees.specs.Claims.{limit_of, live_part}
-use Rattle.tp_trees.specs.Flaws.{tree_flaw}
-use Rattle.tp_trees.specs.declared.claim.Claim.{Claim}
-use Rattle.tp_trees.specs.declared.claim.TreeFlaw.{TreeFlaw}
+use Rattle.tp_bound_laws.specs.Claims.{limit_of, live_part}
+use Rattle.tp_bound_laws.specs.Flaws.{tree_flaw}
+use Rattle.tp_bound_laws.specs.declared.claim.Claim.{Claim}
+use Rattle.tp_bound_laws.specs.declared.claim.TreeFlaw.{TreeFlaw}
 
 abbrev pub loc : ℕ → LocId
 loc n = record { 0 = n }

@@ -10,8 +10,8 @@ use Rattle.tp_bounds.specs.declared.tree.Head.TheVariants.{Act as ActHead, At as
 use Rattle.tp_bounds.specs.declared.tree.Node.{Node}
 use Rattle.tp_bounds.specs.declared.tree.TreeRow.{TreeRow}
 use Rattle.tp_machine.specs.Modes.{gap_between, mode_of}
-use Rattle.tp_trees.specs.declared.claim.Claim.TheVariants.{Earliest, Never}
-use Rattle.tp_trees.specs.declared.claim.TreeFlaw.TheVariants.{NoSuchHop, RoomRow, Uncovered, Weak}
+use Rattle.tp_bound_laws.specs.declared.claim.Claim.TheVariants.{Earliest, Never}
+use Rattle.tp_bound_laws.specs.declared.claim.TreeFlaw.TheVariants.{NoSuchHop, RoomRow, Uncovered, Weak}
 use Rattle.rows_trees.proofs.Duo.{asks, first, first_plan, first_point, five_rows, flaw_for, flaw_in, goal_node, narrow, node, own, row}
 
 -- ---- the first sheet

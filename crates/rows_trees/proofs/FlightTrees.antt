@@ -15,7 +15,7 @@ use Rattle.tp_schedule.specs.declared.parts.Goal.TheVariants.{Tray, Purge}
 use Rattle.tp_schedule.specs.declared.parts.Kind.TheVariants.{Front}
 use Rattle.tp_schedule.specs.declared.parts.Origin.TheVariants.{Front as FromFront}
 use Rattle.tp_schedule.specs.declared.parts.Plan.{Plan}
-use Rattle.tp_trees.specs.declared.claim.Claim.TheVariants.{Earliest}
+use Rattle.tp_bound_laws.specs.declared.claim.Claim.TheVariants.{Earliest}
 use Rattle.rows_trees.proofs.Duo.{act, asks, first_plan, flaw_for, goal_node, loc, node, own, row}
 
 abbrev front : Plan

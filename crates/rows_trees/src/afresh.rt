@@ -1,6 +1,6 @@
 //! A board that lives on from ask to ask answers as one that is loaded afresh for each.
 ghost use Rattle.std.specs.Prelude.{◌≡◌, IfErr, IfOk};
-ghost use Rattle.tp_schedule.specs.Planning.{CanAsk};
+ghost use Rattle.tp_schedule.specs.PlannerAnswers.{CanAsk};
 ghost use Rattle.tp_search.specs.Engines.{EngineLasts};
 ghost use Rattle.tp_search.specs.Workspaces.{IsSpentOf};
 

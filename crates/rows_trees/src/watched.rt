@@ -1,8 +1,8 @@
 //! Whole scripts with bounds: the checker of trees, which knows no network and no search, looks at each tree as it is shown.
 ghost use Rattle.std.specs.Prelude.{◌≡◌, ◌+◌, ◌≤◌, IfOk, OnOk};
 ghost use Rattle.tp_script.specs.Printed.{IsEchoed};
-ghost use Rattle.tp_turn.specs.LiveStates.{seen};
-ghost use Rattle.tp_turn.specs.Ready.{CanTakeEvents, KeepsStock};
+ghost use Rattle.tp_event_rules.specs.LiveStates.{seen};
+ghost use Rattle.tp_event_rules.specs.Ready.{CanTakeEvents, KeepsStock};
 
 use crate::checks::machine_of;
 use rows_machine::machines::DUO;
@@ -11,13 +11,13 @@ use std::alloc::Global;
 use std::test::Fail;
 use tp_base::Tick;
 use tp_bound_check::{Claim, check_bound};
+use tp_event_rules::LiveState;
+use tp_event_turn::{empty_state_can_begin, take_event, turns_keep_stock};
 use tp_machine::Machine;
 use tp_schedule::{Ask, Halt, Planner, Reply, Schedule};
 use tp_script::{Event, LineFault, read_printed};
 use tp_search::Engine;
 use tp_stn_undo::LiveNet;
-use tp_turn::LiveState;
-use tp_turning::{empty_state_can_begin, take_event, turns_keep_stock};
 use tp_words::{first_line, without_newline};
 
 /// The longest line and the most lines of a row's script.

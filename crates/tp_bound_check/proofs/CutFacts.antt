@@ -2,13 +2,13 @@
 use Rattle.std.proofs.Common.{◌≡◌, ℕ, zero, suc, ◌≤◌, Bool, true, false, cond, ◌&&◌, ◌||◌, leb, ltb, List, [], ◌∷◌, ◌++◌, insert, take, drop, find, refl, sym, ◌∙◌, ap, arith, All, AllPairs, Option, Some, None, option_map}
 use Rattle.std.proofs.lemmas.Bool.Decides.{nat_tests}
 use Rattle.std.proofs.lemmas.List.Elements.{All-head, All-tail}
-use Rattle.tp_constraints.proofs.Numbering.{same_spot-is}
+use Rattle.tp_constraints.proofs.PointNumbers.{same_spot-is}
 use Rattle.tp_constraints.specs.Gaps.{slot_gap}
 use Rattle.tp_constraints.specs.Numbers.{is_same_spot}
 use Rattle.tp_schedule.proofs.Pairs.{AllPairs-head, AllPairs-tail}
 use Rattle.tp_schedule.specs.Spots.{Slot, Spot}
-use Rattle.tp_trees.proofs.ApartStarts.{Apart}
-use Rattle.tp_trees.specs.Chains.{gap_in}
+use Rattle.tp_bound_laws.proofs.ApartStarts.{Apart}
+use Rattle.tp_bound_laws.specs.Chains.{gap_in}
 use Rattle.tp_bound_check.specs.Founds.{found_in, gap_out, is_outside, next_found}
 use Rattle.tp_bound_check.specs.declared.found.Found.{Found}
 

@@ -9,9 +9,9 @@ use Rattle.tp_machine.specs.declared.machine.Machine.{Machine}
 use Rattle.tp_schedule.specs.Spots.{Spot}
 use Rattle.tp_schedule.specs.declared.parts.Ask.{Ask}
 use Rattle.tp_schedule.specs.declared.parts.Plan.{Plan}
-use Rattle.tp_trees.specs.Chains.{follow, gap_of, led_on}
-use Rattle.tp_trees.specs.Chains.Led.{lost}
-use Rattle.tp_trees.specs.Places.{Stand}
+use Rattle.tp_bound_laws.specs.Chains.{follow, gap_of, led_on}
+use Rattle.tp_bound_laws.specs.Chains.Led.{lost}
+use Rattle.tp_bound_laws.specs.Places.{Stand}
 use Rattle.tp_bound_check.specs.Points.{IsWeight}
 use Rattle.tp_bound_check.proofs.RowSteps.{drop-one}
 

@@ -3,11 +3,11 @@ use Rattle.std.proofs.Common.{◌≡◌, ℕ, suc, ◌+◌, ◌*◌, ◌<◌, �
 use Rattle.std.proofs.lemmas.List.{length-append}
 use Rattle.tp_machine.specs.declared.machine.Machine.{Machine}
 use Rattle.tp_schedule.specs.Choices.{Choice}
-use Rattle.tp_trees.specs.Places.{Stand}
+use Rattle.tp_bound_laws.specs.Places.{Stand}
 use Rattle.std.specs.Prelude.{IfSome}
 use Rattle.tp_bound_check.specs.Frames.{AreStacked, HasFewPlaces, IsOn, has_due, most_depth, with_frame}
 use Rattle.tp_bound_check.specs.Looks.{IsSoundFrame, IsSoundPassing, IsSoundStack}
-use Rattle.tp_bound_check.specs.declared.passing.Passing.TheVariants.{Passed}
+use Rattle.tp_bound_check.specs.declared.frame_pass.Passing.TheVariants.{Passed}
 use Rattle.tp_bound_check.proofs.TakeFacts.{all-left, all-with}
 use Rattle.tp_bound_check.specs.declared.dues.Frame.{Frame}
 use Rattle.tp_bound_check.specs.declared.dues.Frame.TheVariants.{Goals, Held, Acts, Nothing}

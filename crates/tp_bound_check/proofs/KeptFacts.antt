@@ -14,7 +14,7 @@ use Rattle.tp_schedule.specs.Plans.{IsEarlier, IsFormed}
 use Rattle.tp_schedule.specs.Spots.{Slot, slot_order}
 use Rattle.tp_schedule.specs.Timetables.{IsOrdered}
 use Rattle.tp_schedule.specs.declared.parts.Plan.{Plan}
-use Rattle.tp_trees.specs.Places.{is_done_wanted, is_purge, locations_below, states_at}
+use Rattle.tp_bound_laws.specs.Places.{is_done_wanted, is_purge, locations_below, states_at}
 use Rattle.tp_bound_check.specs.Stands.{AreOrdersTo}
 
 pub ordered-filter : (keeps : Plan → Bool) (plans : List Plan) → IsOrdered plans → IsOrdered (filter keeps plans)

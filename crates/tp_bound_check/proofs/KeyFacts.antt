@@ -14,7 +14,7 @@ use Rattle.tp_schedule.specs.Spots.Spot.{kept, own}
 use Rattle.tp_schedule.specs.declared.parts.Plan.{Plan}
 use Rattle.tp_schedule.specs.declared.parts.SheetId.{SheetId}
 use Rattle.tp_schedule.specs.declared.records.SheetName.{SheetName}
-use Rattle.tp_trees.specs.Chains.{is_plan_of, plan_named}
+use Rattle.tp_bound_laws.specs.Chains.{is_plan_of, plan_named}
 use Rattle.tp_bound_check.specs.Keys.{AreByCopy, AreByName, AreByStart, copy_key, plan_key, sheet_key, start_key}
 use Rattle.tp_bound_check.specs.contracts.index.StartKeyPartialEq.TheImpl.{eq-value as eq-start}
 use Rattle.tp_bound_check.specs.contracts.index.SheetKeyPartialEq.TheImpl.{eq-value as eq-sheet}

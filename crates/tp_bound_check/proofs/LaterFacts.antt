@@ -6,16 +6,16 @@ use Rattle.std.proofs.lemmas.List.{length-reverse, reverse-reverse}
 use Rattle.tp_constraints.specs.Gaps.{slot_gap}
 use Rattle.tp_constraints.specs.Numbers.{is_same_spot}
 use Rattle.tp_constraints.specs.Suffixes.{order_in}
-use Rattle.tp_machine.specs.Using.{action_at}
+use Rattle.tp_machine.specs.ModuleUse.{action_at}
 use Rattle.tp_machine.specs.declared.parts.HoldRule.{HoldRule}
 use Rattle.tp_machine.specs.declared.machine.Machine.{Machine}
 use Rattle.tp_schedule.specs.Choices.{Choice, placed, put_places}
-use Rattle.tp_schedule.specs.Holding.{holds_of_act}
+use Rattle.tp_schedule.specs.Holders.{holds_of_act}
 use Rattle.tp_schedule.specs.Spots.{Slot, Spot, slot_order}
 use Rattle.tp_schedule.specs.Spots.Spot.{kept, own}
 use Rattle.tp_schedule.specs.declared.parts.Plan.{Plan}
-use Rattle.tp_trees.specs.Chains.{gap_behind, gap_in}
-use Rattle.tp_trees.specs.Places.{Branch}
+use Rattle.tp_bound_laws.specs.Chains.{gap_behind, gap_in}
+use Rattle.tp_bound_laws.specs.Places.{Branch}
 use Rattle.tp_bound_check.specs.Points.{choices_to}
 use Rattle.tp_bound_check.specs.Stands.{order_until}
 use Rattle.tp_bound_check.proofs.ChoiceFacts.{slice-is}

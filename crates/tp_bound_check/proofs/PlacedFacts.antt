@@ -6,13 +6,13 @@ use Rattle.std.proofs.lemmas.Bool.{leb-true}
 use Rattle.std.proofs.lemmas.List.{length-reverse, take-append-le}
 use Rattle.std.proofs.lemmas.Option.{slice_get_within}
 use Rattle.tp_machine.specs.Modes.{gap_at}
-use Rattle.tp_machine.specs.Using.{action_at}
+use Rattle.tp_machine.specs.ModuleUse.{action_at}
 use Rattle.tp_machine.specs.declared.parts.ActId.{ActId}
 use Rattle.tp_machine.specs.declared.parts.HoldRule.{HoldRule}
 use Rattle.tp_machine.specs.declared.parts.State.{State}
 use Rattle.tp_machine.specs.declared.machine.Machine.{Machine}
 use Rattle.tp_schedule.specs.Choices.{Choice, placed, put_places}
-use Rattle.tp_schedule.specs.Holding.{holds_of_act}
+use Rattle.tp_schedule.specs.Holders.{holds_of_act}
 use Rattle.tp_schedule.specs.Spots.{Slot, Spot, slot_order}
 use Rattle.tp_schedule.specs.Spots.Spot.{kept, own}
 use Rattle.tp_schedule.specs.declared.parts.Ask.{Ask}
@@ -20,9 +20,9 @@ use Rattle.tp_schedule.specs.declared.parts.Plan.{Plan}
 use Rattle.tp_constraints.specs.Gaps.{Gap}
 use Rattle.tp_constraints.specs.Suffixes.{choice_slot, order_in, place_first, with_action, with_place, Suffix}
 use Rattle.tp_bounds.specs.declared.tree.TreeRow.{TreeRow}
-use Rattle.tp_trees.proofs.Lists.{number-same}
-use Rattle.tp_trees.specs.Chains.{choice_act, gap_in, or_else, resource_gap, spanned}
-use Rattle.tp_trees.specs.Places.{Branch, Span, Stand, at_places, next_rule, place_branch, rule_in}
+use Rattle.tp_bound_laws.proofs.Lists.{number-same}
+use Rattle.tp_bound_laws.specs.Chains.{choice_act, gap_in, or_else, resource_gap, spanned}
+use Rattle.tp_bound_laws.specs.Places.{Branch, Span, Stand, at_places, next_rule, place_branch, rule_in}
 use Rattle.tp_bound_check.specs.Points.{choices_to}
 use Rattle.tp_bound_check.specs.Ranks.{AreRanked, AreSpanRanks, IsSoundStand, Ranks, mixed_gap, next_number, own_among, rank_at}
 use Rattle.tp_bound_check.specs.Stands.{order_until}

@@ -5,19 +5,19 @@ use Rattle.std.proofs.lemmas.Bool.Decides.{nat_tests}
 use Rattle.std.proofs.lemmas.List.Elements.{All-nil, All-cons, All-head, All-tail, All-take, All-drop}
 use Rattle.tp_constraints.specs.Gaps.{Gap, slot_gap}
 use Rattle.tp_constraints.specs.Numbers.{is_same_spot}
-use Rattle.tp_machine.specs.Using.{action_at}
+use Rattle.tp_machine.specs.ModuleUse.{action_at}
 use Rattle.tp_machine.specs.declared.parts.HoldRule.{HoldRule}
 use Rattle.tp_machine.specs.declared.machine.Machine.{Machine}
 use Rattle.tp_schedule.specs.Choices.{Choice, placed, put_places}
-use Rattle.tp_schedule.specs.Holding.{holds_of_act}
+use Rattle.tp_schedule.specs.Holders.{holds_of_act}
 use Rattle.tp_schedule.specs.Spots.{Slot, Spot, slot_order}
 use Rattle.tp_schedule.specs.Spots.Spot.{kept, own}
 use Rattle.tp_schedule.specs.declared.parts.Plan.{Plan}
 use Rattle.tp_schedule.specs.declared.parts.SheetId.{SheetId}
 use Rattle.tp_schedule.proofs.PutFacts.{All-insert}
-use Rattle.tp_trees.proofs.Lists.{number-same}
-use Rattle.tp_trees.specs.Chains.{gap_behind, gap_in}
-use Rattle.tp_trees.proofs.ApartStarts.{Apart}
+use Rattle.tp_bound_laws.proofs.Lists.{number-same}
+use Rattle.tp_bound_laws.specs.Chains.{gap_behind, gap_in}
+use Rattle.tp_bound_laws.proofs.ApartStarts.{Apart}
 use Rattle.tp_bound_check.proofs.CutFacts.{find-cut, slot-out}
 use Rattle.tp_bound_check.specs.Founds.{found_in, next_found, slot_before, slot_behind}
 use Rattle.tp_bound_check.specs.Points.{copy_in}

@@ -6,17 +6,17 @@ use Rattle.std.proofs.lemmas.Bool.{eqb-true}
 use Rattle.std.proofs.lemmas.List.{length-reverse, reverse-append}
 use Rattle.std.proofs.lemmas.List.Elements.{All-contains, All-head, All-tail}
 use Rattle.tp_machine.proofs.MachineFacts.{is_machine}
-use Rattle.tp_machine.specs.Using.{action_at}
+use Rattle.tp_machine.specs.ModuleUse.{action_at}
 use Rattle.tp_machine.specs.declared.parts.Action.{Action}
 use Rattle.tp_machine.specs.declared.parts.HoldRule.{HoldRule}
 use Rattle.tp_machine.specs.declared.machine.Machine.{Machine}
 use Rattle.tp_schedule.proofs.Pairs.{AllPairs-head, AllPairs-nil, AllPairs-tail}
 use Rattle.tp_schedule.specs.Choices.{Choice, put_places}
-use Rattle.tp_schedule.specs.Holding.{holds_of_act}
+use Rattle.tp_schedule.specs.Holders.{holds_of_act}
 use Rattle.tp_schedule.specs.Spots.{Slot, Spot}
 use Rattle.tp_constraints.specs.Gaps.{Gap}
-use Rattle.tp_trees.proofs.Lists.{number-same}
-use Rattle.tp_trees.specs.Chains.{or_else}
+use Rattle.tp_bound_laws.proofs.Lists.{number-same}
+use Rattle.tp_bound_laws.specs.Chains.{or_else}
 use Rattle.tp_constraints.proofs.Lists.{contains-get}
 
 -- ---- an action holds a resource once

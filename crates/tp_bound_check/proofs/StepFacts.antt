@@ -10,7 +10,7 @@ use Rattle.tp_machine.specs.declared.parts.State.{State}
 use Rattle.tp_machine.specs.declared.machine.Machine.{Machine}
 use Rattle.tp_schedule.specs.Routes.{is_act_allowed, least_of, step_by}
 use Rattle.tp_schedule.specs.declared.parts.Ask.{Ask}
-use Rattle.tp_trees.specs.Flaws.{are_steps_kept, is_row_after, is_step_kept}
+use Rattle.tp_bound_laws.specs.Flaws.{are_steps_kept, is_row_after, is_step_kept}
 use Rattle.tp_bound_check.specs.Links.{next_at, starts_of}
 use Rattle.tp_bound_check.proofs.LinkFacts.{at-map, next-here, next-none, some-at, within}
 

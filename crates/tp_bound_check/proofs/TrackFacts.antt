@@ -1,9 +1,9 @@
 -- Tracks of orders, as the orders grow, and what is between holds of a branch.
 use Rattle.std.proofs.Common.{◌≡◌, ℕ, zero, suc, ◌==◌, refl, ◌+◌, ◌-◌, ◌≤◌, ◌<◌, cond, max, min, List, [], ◌∷◌, ◌++◌, length, insert, take, reverse, get_or, sym, ◌∙◌, ap, subst, arith, AllPairs, Option, Some, None}
-use Rattle.tp_constraints.proofs.Placing.{put_places-push}
+use Rattle.tp_constraints.proofs.PlaceGaps.{put_places-push}
 use Rattle.tp_constraints.specs.Gaps.{Gap}
 use Rattle.tp_constraints.specs.Suffixes.{choice_slot, order_in, place_first, with_place, Suffix}
-use Rattle.tp_machine.specs.Using.{action_at}
+use Rattle.tp_machine.specs.ModuleUse.{action_at}
 use Rattle.tp_machine.specs.declared.parts.HoldRule.{HoldRule}
 use Rattle.tp_machine.specs.declared.machine.Machine.{Machine}
 use Rattle.std.proofs.lemmas.List.{length-take-le}
@@ -11,16 +11,16 @@ use Rattle.std.specs.List.{slice_get}
 use Rattle.tp_bound_check.proofs.ChoiceFacts.{slice-is}
 use Rattle.tp_bound_check.proofs.TableFacts.{take-one}
 use Rattle.tp_schedule.specs.Choices.{Choice, placed, put_places}
-use Rattle.tp_schedule.specs.Holding.{holds_of_act}
+use Rattle.tp_schedule.specs.Holders.{holds_of_act}
 use Rattle.tp_schedule.specs.Plans.{IsEarlier}
 use Rattle.tp_schedule.specs.Spots.{Slot, Spot, slot_order}
 use Rattle.tp_schedule.specs.Spots.Spot.{own}
 use Rattle.tp_schedule.specs.declared.parts.Plan.{Plan}
-use Rattle.tp_trees.proofs.ApartStarts.{Apart, starts-apart}
-use Rattle.tp_trees.proofs.Lists.{number-same}
+use Rattle.tp_bound_laws.proofs.ApartStarts.{Apart, starts-apart}
+use Rattle.tp_bound_laws.proofs.Lists.{number-same}
 use Rattle.tp_machine.specs.Modes.{gap_at}
-use Rattle.tp_trees.specs.Chains.{gap_in, or_else, spanned}
-use Rattle.tp_trees.specs.Places.{Branch, Span, rule_in}
+use Rattle.tp_bound_laws.specs.Chains.{gap_in, or_else, spanned}
+use Rattle.tp_bound_laws.specs.Places.{Branch, Span, rule_in}
 use Rattle.tp_bound_check.specs.Founds.{found_in, gap_out, put_found, track_of}
 use Rattle.tp_bound_check.specs.declared.found.Found.{Found}
 use Rattle.tp_bound_check.specs.declared.found.Track.{Track}

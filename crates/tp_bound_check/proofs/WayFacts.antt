@@ -5,15 +5,15 @@ use Rattle.std.specs.List.{slice_get}
 use Rattle.std.proofs.lemmas.List.{length-append, length-reverse}
 use Rattle.std.proofs.lemmas.List.Elements.{All-nil, All-cons}
 use Rattle.std.proofs.lemmas.Option.{slice_get_within}
-use Rattle.tp_machine.specs.Using.{action_at}
+use Rattle.tp_machine.specs.ModuleUse.{action_at}
 use Rattle.tp_machine.specs.declared.parts.ActId.{ActId}
 use Rattle.tp_machine.specs.declared.parts.HoldRule.{HoldRule}
 use Rattle.tp_machine.specs.declared.machine.Machine.{Machine}
 use Rattle.tp_schedule.specs.Choices.{Choice}
-use Rattle.tp_schedule.specs.Holding.{holds_of_act}
+use Rattle.tp_schedule.specs.Holders.{holds_of_act}
 use Rattle.tp_schedule.specs.declared.parts.Plan.{Plan}
 use Rattle.tp_constraints.specs.Suffixes.{place_first}
-use Rattle.tp_trees.specs.Places.{Branch, Stand}
+use Rattle.tp_bound_laws.specs.Places.{Branch, Stand}
 use Rattle.tp_bound_check.specs.Frames.{HasFewPlaces, has_due, with_frame}
 use Rattle.tp_bounds.specs.declared.tree.Head.{Head}
 use Rattle.tp_bounds.specs.declared.tree.Head.TheVariants.{Goal as GoalHead, Act as ActHead, At as AtHead, Stop as StopHead}
@@ -21,7 +21,7 @@ use Rattle.tp_bound_check.specs.Looks.{at_depth, places_behind}
 use Rattle.tp_bound_check.specs.Ranks.{AreRanked, AreRankedFrames, AreRising, IsFrameBelow, IsFrameOf, IsRanked, IsRankedPassing, IsSoundStand, Ranks, StayTo, next_number, number_of}
 use Rattle.tp_bound_check.specs.declared.dues.Frame.{Frame}
 use Rattle.tp_bound_check.specs.declared.dues.Frame.TheVariants.{Goals, Held, Acts, Nothing}
-use Rattle.tp_bound_check.specs.declared.passing.Passing.TheVariants.{Passed}
+use Rattle.tp_bound_check.specs.declared.frame_pass.Passing.TheVariants.{Passed}
 use Rattle.tp_bound_check.proofs.SeamFacts.{few-rules, reverse-one, seam}
 use Rattle.tp_bound_check.proofs.TakeFacts.{all-last, all-left, all-with}
 

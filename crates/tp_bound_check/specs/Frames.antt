@@ -3,7 +3,7 @@ use Rattle.std.specs.Prelude.{◌≡◌, ℕ, suc, ◌+◌, ◌*◌, ◌≤◌, 
 use Rattle.tp_machine.specs.Limits.{most_act_holds}
 use Rattle.tp_schedule.specs.Choices.{Choice}
 use Rattle.tp_schedule.specs.Limits.{most_acts}
-use Rattle.tp_trees.specs.Places.{Branch, Stand}
+use Rattle.tp_bound_laws.specs.Places.{Branch, Stand}
 use Rattle.tp_bound_check.specs.declared.dues.Frame.{Frame}
 use Rattle.tp_bound_check.specs.declared.dues.Frame.TheVariants.{Goals, Held, Acts, Nothing}
 

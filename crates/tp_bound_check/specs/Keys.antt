@@ -8,7 +8,7 @@ use Rattle.tp_schedule.specs.Spots.Spot.{kept, own}
 use Rattle.tp_schedule.specs.declared.parts.Plan.{Plan}
 use Rattle.tp_schedule.specs.declared.parts.SheetId.{SheetId}
 use Rattle.tp_schedule.specs.declared.records.SheetName.{SheetName}
-use Rattle.tp_trees.specs.Chains.{is_plan_of}
+use Rattle.tp_bound_laws.specs.Chains.{is_plan_of}
 use Rattle.tp_bound_check.specs.declared.index.SheetKey.{SheetKey}
 use Rattle.tp_bound_check.specs.declared.index.StartKey.{StartKey}
 

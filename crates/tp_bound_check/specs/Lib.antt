@@ -1,4 +1,4 @@
-pub mod Sorting
+pub mod SortedHolds
 pub mod Points
 pub mod Founds
 pub mod Tables

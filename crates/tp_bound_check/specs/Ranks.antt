@@ -3,22 +3,22 @@ use Rattle.std.specs.Prelude.{◌≡◌, ℕ, ◌+◌, ◌*◌, ◌-◌, ◌<◌
 use Rattle.tp_constraints.specs.Gaps.{Gap, slot_gap}
 use Rattle.tp_constraints.specs.Numbers.{is_same_spot}
 use Rattle.tp_constraints.specs.Suffixes.{order_in}
-use Rattle.tp_machine.specs.Using.{action_at}
+use Rattle.tp_machine.specs.ModuleUse.{action_at}
 use Rattle.tp_machine.specs.declared.parts.HoldRule.{HoldRule}
 use Rattle.tp_machine.specs.declared.machine.Machine.{Machine}
 use Rattle.tp_schedule.specs.Choices.{Choice}
-use Rattle.tp_schedule.specs.Holding.{holds_of_act}
+use Rattle.tp_schedule.specs.Holders.{holds_of_act}
 use Rattle.tp_schedule.specs.Spots.{Slot, Spot}
 use Rattle.tp_schedule.specs.Spots.Spot.{kept, own}
 use Rattle.tp_schedule.specs.declared.parts.Plan.{Plan}
-use Rattle.tp_trees.specs.Chains.{gap_behind}
-use Rattle.tp_trees.specs.Places.{Branch, Span, Stand}
+use Rattle.tp_bound_laws.specs.Chains.{gap_behind}
+use Rattle.tp_bound_laws.specs.Places.{Branch, Span, Stand}
 use Rattle.tp_bound_check.specs.Stands.{IsSpanOf, order_until}
 use Rattle.tp_bound_check.specs.Frames.{has_due}
 use Rattle.tp_bound_check.specs.declared.dues.Frame.{Frame}
 use Rattle.tp_bound_check.specs.declared.dues.Frame.TheVariants.{Goals, Held, Acts, Nothing}
-use Rattle.tp_bound_check.specs.declared.passing.Passing.{Passing}
-use Rattle.tp_bound_check.specs.declared.passing.Passing.TheVariants.{Empty, Passed, Wrong}
+use Rattle.tp_bound_check.specs.declared.frame_pass.Passing.{Passing}
+use Rattle.tp_bound_check.specs.declared.frame_pass.Passing.TheVariants.{Empty, Passed, Wrong}
 use Rattle.tp_bound_check.specs.declared.stance.Stance.{Stance}
 
 abbrev pub is_kept_point : Spot → Bool

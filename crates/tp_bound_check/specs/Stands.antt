@@ -4,7 +4,7 @@ use Rattle.tp_machine.specs.declared.machine.Machine.{Machine}
 use Rattle.tp_schedule.specs.Choices.{placed}
 use Rattle.tp_schedule.specs.Spots.{Slot, slot_order}
 use Rattle.tp_schedule.specs.declared.parts.Plan.{Plan}
-use Rattle.tp_trees.specs.Places.{Branch, Span, next_rule}
+use Rattle.tp_bound_laws.specs.Places.{Branch, Span, next_rule}
 use Rattle.tp_bound_check.specs.Founds.{IsTrack, track_of}
 use Rattle.tp_bound_check.specs.declared.found.Ends.{Ends}
 use Rattle.tp_bound_check.specs.declared.found.Part.{Part}

@@ -4,7 +4,7 @@ ghost use Rattle.tp_machine.specs.Limits.{most_act_holds};
 ghost use Rattle.tp_constraints.specs.Suffixes.{room_of, with_action, with_goal, with_place, with_stop};
 ghost use Rattle.tp_schedule.specs.Choices.{Choice};
 ghost use Rattle.tp_schedule.specs.Limits.{most_acts};
-ghost use Rattle.tp_trees.specs.Chains.{choice_act};
+ghost use Rattle.tp_bound_laws.specs.Chains.{choice_act};
 ghost use Rattle.tp_bound_check.specs.Branches.{newest_in};
 
 use crate::choices::Choices;
@@ -25,7 +25,7 @@ pub(crate) struct Branch {
 
 impl Model for Branch {
     ghost use Rattle.std.specs.Prelude.{length, ◌+◌, ◌≡◌};
-    ghost use Rattle.tp_trees.specs.Places as places;
+    ghost use Rattle.tp_bound_laws.specs.Places as places;
     ghost use Rattle.tp_bound_check.specs.Branches.{branch_by};
 
     ghost Value = { places.Branch };

@@ -3,7 +3,7 @@ ghost use Rattle.std.specs.Prelude.{◌≡◌, ℕ, ◌+◌, ◌<◌, ◌≤◌,
 ghost use Rattle.tp_constraints.specs.Gaps.{slot_gap, anchor_spot};
 ghost use Rattle.tp_schedule.specs.Plans.{plan_of};
 ghost use Rattle.tp_schedule.specs.Spots as spots;
-ghost use Rattle.tp_trees.specs.Chains.{arrival_at, arrival_in, arrival_of, duration_gap, is_next_arrival, least_gap, line_gap, most_gap};
+ghost use Rattle.tp_bound_laws.specs.Chains.{arrival_at, arrival_in, arrival_of, duration_gap, is_next_arrival, least_gap, line_gap, most_gap};
 ghost use Rattle.tp_bound_check.specs.Ranges.{IsShort, least_by, most_by};
 ghost use Rattle.std.specs.Prelude.{IfSome, suc, ◌==◌};
 ghost use Rattle.std.specs.Prelude.{pos, ◌+ℤ◌, ◌-ℤ◌};
@@ -13,11 +13,11 @@ ghost use Rattle.tp_machine.specs.Modes.{gap_between};
 ghost use Rattle.tp_schedule.specs.Choices.{Choice};
 ghost use Rattle.tp_schedule.specs.declared.parts.Plan.{Plan};
 
+use crate::act_length::{ActLength, range_of};
 use crate::branch::Branch;
-use crate::naming::act_from;
 use crate::points::{Gap, Point, Slot};
-use crate::ranges::{ActLength, range_of};
 use crate::sheets::Sheets;
+use crate::tree_names::act_from;
 use std::marker::Model;
 use tp_machine::{Anchor, HoldRule, LocId, Machine, gap_between};
 use tp_schedule::{Ask, Goal, Kind, Plan, SheetId, is_earlier};
@@ -122,7 +122,7 @@ struct Arrival {
 }
 
 impl Model for Arrival {
-    ghost use Rattle.tp_trees.specs.Chains as chains;
+    ghost use Rattle.tp_bound_laws.specs.Chains as chains;
 
     ghost Value = { chains.Arrival };
 

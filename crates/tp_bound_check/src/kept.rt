@@ -1,17 +1,17 @@
 //! The live part of a schedule, the orders of its holds, and the goals of an ask.
 ghost use Rattle.std.specs.Prelude.{◌≡◌, ◌||◌, ◌&&◌, ◌++◌, ◌∷◌, [], filter, IfOk, OnOk, if◌then◌else◌};
 ghost use Rattle.tp_bound_check.specs.Stands.{AreOrders};
-ghost use Rattle.tp_schedule.specs.Living.{is_live};
+ghost use Rattle.tp_schedule.specs.LivePlans.{is_live};
 ghost use Rattle.tp_schedule.specs.Plans.{is_same_copy};
 ghost use Rattle.tp_schedule.specs.Routes.{is_wanted};
 ghost use Rattle.tp_schedule.specs.Timetables.{IsOrdered};
 ghost use Rattle.tp_schedule.specs.declared.parts.Goal.TheVariants.{Purge};
-ghost use Rattle.tp_trees.specs.Claims.{live_part};
-ghost use Rattle.tp_trees.specs.Places.{goal_states, is_done_wanted, is_purge, states_at};
+ghost use Rattle.tp_bound_laws.specs.Claims.{live_part};
+ghost use Rattle.tp_bound_laws.specs.Places.{goal_states, is_done_wanted, is_purge, states_at};
 
+use crate::begin_order::kept_order;
 use crate::orders::Order;
 use crate::sheets::Sheets;
-use crate::sorting::kept_order;
 use std::alloc::Global;
 use tp_base::Memory;
 use tp_machine::{Face, LocId, Machine, ResId, Sheet, State, Want, machine_law};

@@ -1,35 +1,35 @@
 //! The check of a bound tree. It uses no network and no search.
 #![tactic(auto)]
 
+mod act_length;
+mod begin_order;
 mod branch;
-mod checking;
+mod branch_span;
 mod choices;
-mod closing;
 mod dues;
-mod following;
 mod found;
+mod frame_pass;
+mod hop_chains;
 mod hops;
 mod index;
 mod kept;
+mod kept_ranks;
 mod links;
-mod naming;
+mod node_close;
+mod node_split;
+mod node_stand;
 mod nodes;
-mod opening;
 mod orders;
-mod own;
-mod passing;
+mod own_gaps;
+mod own_rank;
 mod points;
-mod ranges;
-mod ranking;
-mod ranks;
 mod rows;
 mod sheets;
-mod sorting;
 mod stance;
-mod standing;
-mod stands;
 mod states;
 mod table;
+mod tree_check;
+mod tree_names;
 
-pub use checking::check_bound;
-pub use tp_trees::{Claim, TreeFlaw};
+pub use tp_bound_laws::{Claim, TreeFlaw};
+pub use tree_check::check_bound;

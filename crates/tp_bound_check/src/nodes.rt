@@ -10,18 +10,18 @@ ghost use Rattle.tp_bound_check.specs.Ranks.{AreRankedFrames};
 ghost use Rattle.tp_bound_check.specs.Looks.{IsNodeFault, IsSoundFrame, IsSoundStack, IsStep, due_on, flaw_by};
 ghost use Rattle.tp_bound_check.specs.declared.dues.Frame.TheVariants.{Goals};
 ghost use Rattle.tp_machine.specs.declared.parts.State.{State};
-ghost use Rattle.tp_trees.specs.Flaws.{IsFlawOf, bad_node_from};
-ghost use Rattle.tp_trees.specs.Places.{Due};
-ghost use Rattle.tp_trees.specs.Places.Due.{goal};
+ghost use Rattle.tp_bound_laws.specs.Flaws.{IsFlawOf, bad_node_from};
+ghost use Rattle.tp_bound_laws.specs.Places.{Due};
+ghost use Rattle.tp_bound_laws.specs.Places.Due.{goal};
 
 use crate::dues::{Frame, NodeFault};
+use crate::frame_pass::Passing;
+use crate::kept_ranks::Ranks;
 use crate::orders::CheckScene;
-use crate::passing::Passing;
-use crate::ranks::Ranks;
 use std::alloc::{AllocError, Global};
+use tp_bound_laws::TreeFlaw;
 use tp_bounds::{Node, Nodes};
 use tp_machine::State;
-use tp_trees::TreeFlaw;
 
 /// One for each depth of a node that may be split, and one of the goals.
 const MOST_FRAMES: usize = 322;

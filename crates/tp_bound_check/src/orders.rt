@@ -8,12 +8,12 @@ ghost use Rattle.tp_bound_check.specs.Links.{ends_of};
 ghost use Rattle.tp_bound_check.specs.Points.{HasOffsets};
 ghost use Rattle.tp_bound_check.specs.Stands.{AreOrders, IsPart, order_until};
 ghost use Rattle.tp_constraints.specs.Suffixes.{order_in};
-ghost use Rattle.tp_machine.specs.Using.{action_at};
+ghost use Rattle.tp_machine.specs.ModuleUse.{action_at};
 ghost use Rattle.tp_schedule.specs.Choices.{Choice};
-ghost use Rattle.tp_schedule.specs.Holding.{holds_of_act};
+ghost use Rattle.tp_schedule.specs.Holders.{holds_of_act};
 ghost use Rattle.tp_schedule.specs.Spots.{slot_order};
 ghost use Rattle.tp_schedule.specs.Timetables.{IsOrdered};
-ghost use Rattle.tp_trees.specs.Places.{next_rule};
+ghost use Rattle.tp_bound_laws.specs.Places.{next_rule};
 
 use crate::branch::Branch;
 use crate::found::{Ends, Found, Leg, Part, Track};

@@ -6,8 +6,8 @@ ghost use Rattle.tp_bound_check.specs.Links.{starts_of};
 ghost use Rattle.tp_bound_check.specs.Tables.{AreRooms, AreSeen, place_of};
 ghost use Rattle.tp_schedule.specs.LocationSets.{has};
 ghost use Rattle.tp_schedule.specs.Routes.{fresh};
-ghost use Rattle.tp_trees.specs.Rows.{row_of, state_of};
-ghost use Rattle.tp_trees.specs.Flaws.{are_starts_kept, are_steps_kept, bad_row, has_row_by, is_good_row, is_row_after, is_step_kept};
+ghost use Rattle.tp_bound_laws.specs.Rows.{row_of, state_of};
+ghost use Rattle.tp_bound_laws.specs.Flaws.{are_starts_kept, are_steps_kept, bad_row, has_row_by, is_good_row, is_row_after, is_step_kept};
 ghost use Rattle.tp_bounds.specs.declared.tree.TreeRow.{TreeRow};
 
 use crate::links::Links;

@@ -2,7 +2,7 @@
 ghost use Rattle.std.specs.Prelude.{◌≡◌, IfOk, map, option_copied};
 ghost use Rattle.tp_bound_check.specs.Keys.{copy_key, plan_key};
 ghost use Rattle.tp_schedule.specs.Plans.{plan_of};
-ghost use Rattle.tp_trees.specs.Chains.{plan_named};
+ghost use Rattle.tp_bound_laws.specs.Chains.{plan_named};
 
 use crate::index::{SheetKey, StartKey, places_of, sheet_key, start_key};
 use crate::points::Point;

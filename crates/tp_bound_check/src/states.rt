@@ -1,6 +1,6 @@
 //! States by their names in a tree.
 ghost use Rattle.std.specs.Prelude.{◌≡◌};
-ghost use Rattle.tp_trees.specs.Rows.{is_same_face, is_same_state, is_state, state_of};
+ghost use Rattle.tp_bound_laws.specs.Rows.{is_same_face, is_same_state, is_state, state_of};
 
 use crate::table::state_of;
 use tp_bounds::NamedState;

@@ -3,7 +3,7 @@ ghost use Rattle.std.specs.Prelude.{◌≡◌, ℕ, ◌+◌, ◌*◌, ◌<◌, [
 ghost use Rattle.std.specs.Prelude.{vec_len, List};
 ghost use Rattle.tp_bounds.specs.declared.tree.TreeRow.{TreeRow};
 ghost use Rattle.tp_bound_check.specs.Tables.{AreRooms, face_part, first_with, is_by, least_with, place_of};
-ghost use Rattle.tp_trees.specs.Rows.{state_of};
+ghost use Rattle.tp_bound_laws.specs.Rows.{state_of};
 
 use std::alloc::{AllocError, Global};
 use tp_base::Memory;

@@ -20,7 +20,7 @@ use Rattle.tp_bounds.specs.declared.tree.TreeRow.{TreeRow}
 use Rattle.tp_words.specs.Fields.{IsName}
 use Rattle.tp_words.specs.Numbers.{IsNumber, digits_of, number_of}
 use Rattle.tp_words.specs.Parts.{parts_at}
-use Rattle.tp_words.proofs.Spelling.{Tells, number_spells}
+use Rattle.tp_words.proofs.SpelledWords.{Tells, number_spells}
 use Rattle.tp_words.proofs.Steps.{and_then_some, map_some}
 use Rattle.tp_bounds.specs.Lines.{IsBound, IsClose, IsHead, IsRow, ReadsBound, bound_after, bound_of, bound_text, bound_words, close_words, head_words, node_of, row_of, row_words}
 use Rattle.tp_words.specs.Texts.{spaced}

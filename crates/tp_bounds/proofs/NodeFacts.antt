@@ -14,7 +14,7 @@ use Rattle.tp_bounds.specs.declared.tree.Node.{Node}
 use Rattle.tp_words.specs.Fields.{name_of}
 use Rattle.tp_words.specs.Numbers.{IsNumber, number_of}
 use Rattle.tp_words.proofs.Lists.{list_takes, list_again}
-use Rattle.tp_words.proofs.Spelling.{Tells, name_spells, number_spells}
+use Rattle.tp_words.proofs.SpelledWords.{Tells, name_spells, number_spells}
 use Rattle.tp_words.proofs.Steps.{and_then_some}
 use Rattle.tp_bounds.specs.Lines.{IsClose, IsHead, IsNode, act_node_of, at_node_of, bare_of, chain_of, close_of, close_words, closed_by, goal_node_of, head_words, hops_of, loop_of, loop_with, node_from, node_of, node_words}
 use Rattle.tp_bounds.specs.Words.{hop_text, point_of, point_text, state_of}

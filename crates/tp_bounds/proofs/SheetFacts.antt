@@ -4,7 +4,7 @@ use Rattle.std.specs.Char.{is_ascii_digit}
 use Rattle.tp_base.specs.NameText.{is_name_byte}
 use Rattle.tp_schedule.specs.declared.records.SheetName.{SheetName}
 use Rattle.tp_words.specs.Numbers.{IsNumber}
-use Rattle.tp_words.proofs.Spelling.{Spells, either, name_spells, number_spells, pair_spells}
+use Rattle.tp_words.proofs.SpelledWords.{Spells, either, name_spells, number_spells, pair_spells}
 use Rattle.tp_words.proofs.Texts.{IsVisible, visible}
 use Rattle.tp_bounds.specs.Sheets.{IsSheet, numbers_of, sheet_from, sheet_of, sheet_text}
 

@@ -12,8 +12,8 @@ use Rattle.tp_bounds.specs.declared.hops.TreeHold.{TreeHold}
 use Rattle.tp_bounds.specs.declared.hops.TreeHold.TheVariants.{Own as OwnHold, Kept as KeptHold}
 use Rattle.tp_bounds.specs.declared.hops.TreePoint.{TreePoint}
 use Rattle.tp_bounds.specs.declared.hops.TreePoint.TheVariants.{Own as OwnPoint, Kept as KeptPoint}
-use Rattle.tp_bounds.specs.declared.words.Flags.{Flags}
-use Rattle.tp_bounds.specs.declared.words.Holders.{Holders}
+use Rattle.tp_bounds.specs.declared.word_reader.Flags.{Flags}
+use Rattle.tp_bounds.specs.declared.word_reader.Holders.{Holders}
 use Rattle.tp_machine.specs.declared.parts.Face.{Face}
 use Rattle.tp_machine.specs.declared.parts.Face.TheVariants.{Front, Back}
 use Rattle.tp_schedule.specs.declared.records.SheetName.{SheetName}
@@ -22,9 +22,9 @@ use Rattle.tp_words.specs.Numbers.{IsNumber}
 use Rattle.tp_words.specs.Parts.{lacks}
 use Rattle.tp_words.proofs.Choices.{after_spells, begins-not, choice_spells, mapped_spells, refit, with_byte}
 use Rattle.tp_words.proofs.PartFacts.{lacks_from}
-use Rattle.tp_words.proofs.Spelling.{Spells, either, name_spells, number_spells, pair_spells}
+use Rattle.tp_words.proofs.SpelledWords.{Spells, either, name_spells, number_spells, pair_spells}
 use Rattle.tp_words.proofs.Steps.{and_then_some}
-use Rattle.tp_script.specs.Reading.{face_of}
+use Rattle.tp_script.specs.EventReaders.{face_of}
 use Rattle.tp_script.specs.Script.{face_byte}
 use Rattle.tp_bounds.specs.Sheets.{IsSheet, sheet_text}
 use Rattle.tp_bounds.specs.Words.{IsHold, IsHop, IsPoint, bit_byte, bit_of, duration_hop_of, flags_of, flags_text, hold_of, hold_text, holders_of, holders_text, hop_of, hop_text, line_hop_of, named_holders_of, resource_hop_from, own_hold_of, own_point_of, point_of, point_text, numbered_of, resource_hop_of, state_from, state_of, state_text}

@@ -7,10 +7,10 @@ use Rattle.tp_bounds.specs.declared.hops.TreeHold.TheVariants.{Own as OwnHold, K
 use Rattle.tp_bounds.specs.declared.hops.TreePoint.{TreePoint}
 use Rattle.tp_bounds.specs.declared.hops.TreePoint.TheVariants.{Own as OwnPoint, Kept as KeptPoint}
 use Rattle.tp_bounds.specs.declared.tree.NamedState.{NamedState}
-use Rattle.tp_bounds.specs.declared.words.Flags.{Flags}
-use Rattle.tp_bounds.specs.declared.words.Holders.{Holders}
+use Rattle.tp_bounds.specs.declared.word_reader.Flags.{Flags}
+use Rattle.tp_bounds.specs.declared.word_reader.Holders.{Holders}
 use Rattle.tp_schedule.specs.declared.records.SheetName.{SheetName}
-use Rattle.tp_script.specs.Reading.{face_of}
+use Rattle.tp_script.specs.EventReaders.{face_of}
 use Rattle.tp_script.specs.Script.{face_byte}
 use Rattle.tp_words.specs.Fields.{IsName, after_of, begins_with, name_of, pair_of, ◌>>=◌}
 use Rattle.tp_words.specs.Numbers.{IsNumber, number_of}

@@ -1,14 +1,14 @@
 -- The bars of a picture: the holds of a schedule, or its actions.
 use Rattle.std.specs.Prelude.{ℕ, ◌+◌, Bool, nat_le, pos, List, [], ◌∷◌, ◌++◌, map, flat_map, find, Option, if◌then◌else◌}
 use Rattle.std.specs.Str.{bytes_eq}
-use Rattle.tp_machine.specs.Using.{begin_of, end_of}
+use Rattle.tp_machine.specs.ModuleUse.{begin_of, end_of}
 use Rattle.tp_machine.specs.declared.parts.Action.{Action}
 use Rattle.tp_machine.specs.declared.parts.HoldRule.{HoldRule}
 use Rattle.tp_machine.specs.declared.machine.Machine.{Machine}
-use Rattle.tp_schedule.specs.Holding.{holds_of_act}
+use Rattle.tp_schedule.specs.Holders.{holds_of_act}
 use Rattle.tp_chart.specs.Courses.{Way}
 use Rattle.tp_chart.specs.declared.bars.Bar.{Bar}
-use Rattle.tp_chart.specs.declared.runs.Run.{Run}
+use Rattle.tp_chart.specs.declared.action_runs.Run.{Run}
 
 -- the actions with their starts and ends, the first of this number
 abbrev pub runs_from : ℕ → List (List ℕ) → List ℕ → List Run

@@ -3,7 +3,7 @@ use Rattle.std.specs.Prelude.{ℕ, Bool, false, not, ◌&&◌, ◌==◌, nat_le,
 use Rattle.std.specs.List.{list_any}
 use Rattle.std.specs.Str.{bytes_eq}
 use Rattle.tp_machine.specs.declared.machine.Machine.{Machine}
-use Rattle.tp_schedule.specs.Planning.{last_tick}
+use Rattle.tp_schedule.specs.PlannerAnswers.{last_tick}
 use Rattle.tp_schedule.specs.declared.records.Record.{Record}
 use Rattle.tp_schedule.specs.declared.records.Record.TheVariants.{Plan, Move, Release, Done, Lost, Recall, Withdraw, Cut, Purge, Stuck, Drop}
 use Rattle.tp_schedule.specs.declared.records.SheetName.{SheetName}

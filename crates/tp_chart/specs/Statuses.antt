@@ -1,8 +1,8 @@
 -- The number and the line of each status.
 use Rattle.std.specs.Prelude.{ℕ, List, ◌++◌, codes}
 use Rattle.std.specs.Fmt.{decimal}
-use Rattle.tp_machine_text.specs.declared.text.MachineFault.{MachineFault}
-use Rattle.tp_machine_text.specs.declared.text.MachineFault.TheVariants as fault
+use Rattle.tp_machine_text.specs.declared.machine_reader.MachineFault.{MachineFault}
+use Rattle.tp_machine_text.specs.declared.machine_reader.MachineFault.TheVariants as fault
 use Rattle.tp_chart.specs.declared.status.Status.{Status}
 use Rattle.tp_chart.specs.declared.status.Status.TheVariants as status
 

@@ -2,8 +2,8 @@
 ghost use Rattle.std.specs.Prelude.{◌≡◌, ◌++◌, ℕ, map, flat_map, find, OnOk, IfOk, option_map};
 ghost use Rattle.tp_chart.specs.Bars.{action_bar, action_named, bars_from, hold_bar, hold_bars_in, holds_named, runs_of, way_bars};
 
+use crate::action_runs::{Run, runs_of};
 use crate::course::Course;
-use crate::runs::{Run, runs_of};
 use std::alloc::Global;
 use tp_base::{Memory, Name};
 use tp_machine::{Action, HoldRule, Machine, span};

@@ -1,30 +1,30 @@
 //! A picture of the schedule that a log tells.
 #![tactic(auto)]
 
+mod action_runs;
 mod bars;
+mod chart;
 mod course;
-mod drawing;
-mod ending;
 mod frame;
+mod head_marks;
 mod laws;
+mod log_picture;
 mod machine;
 mod marks;
 mod outage;
-mod putting;
+mod picture;
 mod rows;
-mod run;
-mod runs;
 mod scene;
-mod showing;
 mod status;
+mod text_pieces;
 mod top;
 mod words;
 
 pub use bars::{Bar, bars_of};
+pub use chart::chart_main;
 pub use course::Course;
-pub use drawing::draw;
 pub use laws::names_need_no_escape;
 pub use outage::Outage;
-pub use run::chart_main;
+pub use picture::draw;
 pub use scene::{Scene, scene_of};
 pub use status::{Long, Status};

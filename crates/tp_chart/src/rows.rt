@@ -1,8 +1,8 @@
 //! The rows of a picture: their labels, the axis above them, and the times in which modules were out.
 use crate::frame::{AxisFrame, HEAD, ROW};
 use crate::outage::Outage;
-use crate::putting::{put_copy, put_name};
 use crate::scene::Scene;
+use crate::text_pieces::{put_copy, put_name};
 use std::alloc::AllocError;
 use tp_base::Name;
 use tp_machine::{LocId, Machine};

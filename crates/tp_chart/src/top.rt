@@ -1,7 +1,7 @@
 //! The top of a picture: its size and colours, its title, and the key.
 use crate::frame::{AxisFrame, ROW};
-use crate::putting::put_name;
 use crate::scene::Scene;
+use crate::text_pieces::put_name;
 use std::alloc::AllocError;
 use tp_machine::Names;
 

@@ -11,13 +11,13 @@ use Rattle.tp_schedule.proofs.LegalOrders.{LastsBy-plans, IsTimedBy-plans}
 use Rattle.tp_machine.proofs.MachineFacts.{is_machine}
 use Rattle.tp_choices.proofs.Lists.{map-same, All-map_from, filter-map-length}
 use Rattle.tp_choices.proofs.OwnSlots.{settled_slot, slots_from-append, slots-without}
-use Rattle.tp_choices.proofs.Placing.{own_acts, Chosen, chosen}
+use Rattle.tp_choices.proofs.OwnPlaces.{own_acts, Chosen, chosen}
 use Rattle.tp_choices.proofs.TimedSlots.{All-slots}
 use Rattle.tp_machine.specs.Modes.{gap_at}
 use Rattle.tp_machine.specs.Machines.{IsMachine}
 use Rattle.tp_schedule.proofs.CopyFacts.{plan_of-itself, same_copy-is}
 use Rattle.tp_schedule.proofs.HeldModes.{slots_spread}
-use Rattle.tp_schedule.proofs.Covering.{covered, AllPairs-from_covered}
+use Rattle.tp_schedule.proofs.CoveredTicks.{covered, AllPairs-from_covered}
 use Rattle.tp_schedule.proofs.HeldCount.{length-held}
 use Rattle.tp_schedule.proofs.LegalOrders.{sound_plans, legal_apart, length-filter-IsPermutation}
 use Rattle.tp_schedule.proofs.Membership.{Contains-map}
@@ -38,7 +38,7 @@ use Rattle.tp_schedule.specs.declared.parts.Origin.TheVariants.{Feeder as FromFe
 use Rattle.tp_schedule.specs.declared.parts.Plan.{Plan}
 use Rattle.tp_schedule.specs.Spots.Spot.{kept, own}
 use Rattle.tp_choices.proofs.AskedFront.{IsKept, kept-by, map-own_acts}
-use Rattle.tp_choices.specs.Answering.{AnswerOpens}
+use Rattle.tp_choices.specs.Alternatives.{AnswerOpens}
 use Rattle.tp_choices.proofs.Unmoved.{slots-unmoved}
 use Rattle.tp_choices.proofs.AnswerTimes as given
 

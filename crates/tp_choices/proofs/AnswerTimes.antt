@@ -3,7 +3,7 @@ use Rattle.std.proofs.Common.{◌≡◌, ◌≢◌, ℕ, suc, ◌+◌, ◌-◌, 
 use Rattle.std.proofs.lemmas.List.{length-append}
 use Rattle.std.proofs.lemmas.List.Elements.{All-contains}
 use Rattle.tp_choices.proofs.Lists.{slice_get-left, slice_get-right}
-use Rattle.tp_choices.proofs.Placing.{LastActs}
+use Rattle.tp_choices.proofs.OwnPlaces.{LastActs}
 use Rattle.tp_choices.proofs.PlansOf.{plan_of-contains}
 use Rattle.tp_machine.specs.Machines.{IsMachine}
 use Rattle.tp_schedule.proofs.CopyFacts.{plan_of-itself, same_copy-is}

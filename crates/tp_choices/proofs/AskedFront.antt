@@ -3,10 +3,10 @@ use Rattle.std.proofs.Common.{◌≡◌, ℕ, suc, ◌+◌, ◌-◌, ◌≤◌, 
 use Rattle.std.proofs.lemmas.Bool.Decides.{nat_tests}
 use Rattle.std.proofs.lemmas.List.{map-append}
 use Rattle.tp_choices.proofs.OwnSlots.{settled_slot, map-slots_by}
-use Rattle.tp_choices.proofs.Placing.{own_acts, LastActs}
-use Rattle.tp_machine.specs.Using.{action_at}
+use Rattle.tp_choices.proofs.OwnPlaces.{own_acts, LastActs}
+use Rattle.tp_machine.specs.ModuleUse.{action_at}
 use Rattle.tp_schedule.specs.Answers.{kept_of, kept_from, kept_acts, acts_in, IsAsked, IsAskedFrom}
-use Rattle.tp_schedule.specs.Holding.{holds_of_act}
+use Rattle.tp_schedule.specs.Holders.{holds_of_act}
 use Rattle.tp_schedule.specs.Plans.{plan_of, LastsWithin, is_fixed}
 use Rattle.tp_schedule.specs.Spots.{Ticks, slots_by, slots_from}
 use Rattle.tp_machine.specs.declared.parts.ActId.{ActId}

@@ -9,7 +9,7 @@ use Rattle.std.proofs.lemmas.List.Sorted.{IsPermutation-sym, IsPermutation-trans
 use Rattle.tp_machine.proofs.MachineFacts.{is_machine}
 use Rattle.tp_machine.specs.Modes.{gap_at}
 use Rattle.tp_machine.specs.declared.machine.Machine.{Machine}
-use Rattle.tp_choices.proofs.Completing.{IsPrefix, prefix_of, point-timed_by}
+use Rattle.tp_choices.proofs.CompletePlans.{IsPrefix, prefix_of, point-timed_by}
 use Rattle.tp_choices.proofs.Lists.{filter-all, map-same}
 use Rattle.tp_choices.proofs.OwnSlots.{own_slots, settled_slot, IsPermutation-placed, map-own_slots, slots_from-append, slots-put_plan, slots-without}
 use Rattle.tp_choices.proofs.TimedSlots.{All-own_slots, All-slots, slots-timed_by, filter-placed}
@@ -22,7 +22,7 @@ use Rattle.tp_schedule.proofs.SlotOrder.{IsPermutation-by_begin}
 use Rattle.tp_schedule.specs.Answers.{unmoved, kept_of, kept_acts, IsAlternative, is_new}
 use Rattle.tp_schedule.specs.Choices.{ChoiceList, acts_of, placed, HasTimes, IsChoiceList}
 use Rattle.tp_schedule.specs.Completions.{settled}
-use Rattle.tp_schedule.specs.Holding.{held}
+use Rattle.tp_schedule.specs.Holders.{held}
 use Rattle.tp_schedule.specs.Legality.{IsLegal, IsSpreadAt}
 use Rattle.tp_schedule.specs.Plans.{plan_of, without, put_plan, is_same_copy, point, end_of_plan}
 use Rattle.tp_schedule.specs.Spots.{Ticks, Slot, IsApart, slots_from, slots_of, slots, slot_order, ticks_of}
@@ -30,7 +30,7 @@ use Rattle.tp_schedule.specs.Times.{at, timed_by}
 use Rattle.tp_schedule.specs.declared.parts.Ask.{Ask}
 use Rattle.tp_schedule.specs.declared.parts.Plan.{Plan}
 use Rattle.tp_schedule.specs.Spots.Spot.{kept, own}
-use Rattle.tp_choices.specs.Answering.{CompleteAnswers}
+use Rattle.tp_choices.specs.Alternatives.{CompleteAnswers}
 use Rattle.tp_choices.proofs.CompleteTimes as given
 
 module _ (machine : Machine) (plans : List Plan) (ask : Ask) (list : ChoiceList) (room : ℕ) (t : Ticks) (rules : IsMachine machine) (legal : IsLegal machine plans)

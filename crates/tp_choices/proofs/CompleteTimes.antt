@@ -9,7 +9,7 @@ use Rattle.std.proofs.lemmas.List.Elements.{All-contains}
 use Rattle.std.proofs.lemmas.List.Kept.{AllPairs-filter}
 use Rattle.tp_machine.specs.declared.parts.ActId.{ActId}
 use Rattle.tp_machine.specs.declared.machine.Machine.{Machine}
-use Rattle.tp_choices.proofs.Completing.{ChoicesLast-at, ChoicesLast-rise, IsPrefix, IsTimedPlan-timed_by, point-timed_by}
+use Rattle.tp_choices.proofs.CompletePlans.{ChoicesLast-at, ChoicesLast-rise, IsPrefix, IsTimedPlan-timed_by, point-timed_by}
 use Rattle.tp_choices.proofs.Lists.{slice_get-append}
 use Rattle.tp_machine.specs.Machines.{IsMachine}
 use Rattle.tp_schedule.proofs.CopyFacts.{InOrder, plan_of-itself, same_copy-is, same_copy-refl, NotOf}

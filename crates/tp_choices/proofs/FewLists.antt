@@ -13,7 +13,7 @@ use Rattle.tp_schedule.proofs.Without.{length-without, stays-in, without}
 use Rattle.tp_schedule.proofs.Pairs.{AllPairs-head, AllPairs-map_from, AllPairs-tail}
 use Rattle.tp_choices.specs.LiveParts.{LiveHasFew, MayAskBeside, MayForget, forgotten_on, less, shift_choice, shifted}
 use Rattle.tp_choices.specs.Searches.{EndedHasFew}
-use Rattle.tp_choices.proofs.Searching.{search_reaches}
+use Rattle.tp_choices.proofs.SearchAncestors.{search_reaches}
 use Rattle.tp_choices.proofs.WholeLists.{whole_opens}
 
 -- different elements that are all among others are no more than those

@@ -3,7 +3,7 @@
 use Rattle.std.proofs.Common.{◌≡◌, inl, inr, ℕ, Bool, true, false, List, [], ◌∷◌, refl, sym, arith, Contains, subst}
 use Rattle.tp_machine.specs.declared.machine.Machine.{Machine}
 use Rattle.tp_machine.specs.declared.parts.State.{State}
-use Rattle.tp_choices.proofs.Leaving.{parent_opens}
+use Rattle.tp_choices.proofs.ShorterLists.{parent_opens}
 use Rattle.tp_schedule.specs.Choices.{Choice, ChoiceList, IsOpen, OpensTo, IsChoiceList, IsChild, IsComplete, CanStop, going}
 use Rattle.tp_schedule.specs.Plans.{end_of_plan}
 use Rattle.tp_schedule.specs.declared.parts.Ask.{Ask}

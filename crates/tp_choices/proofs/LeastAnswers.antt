@@ -8,9 +8,9 @@ use Rattle.tp_machine.specs.Modes.{gap_at}
 use Rattle.tp_machine.specs.declared.machine.Machine.{Machine}
 use Rattle.tp_schedule.proofs.Pairs.{AllPairs-map_from}
 use Rattle.tp_choices.proofs.AskedFront.{kept-by, fixed_till}
-use Rattle.tp_choices.proofs.Completing.{IsPrefix, prefix_of, point-timed_by}
+use Rattle.tp_choices.proofs.CompletePlans.{IsPrefix, prefix_of, point-timed_by}
 use Rattle.tp_choices.proofs.OwnSlots.{settled_slot}
-use Rattle.tp_choices.proofs.Placing.{LastActs}
+use Rattle.tp_choices.proofs.OwnPlaces.{LastActs}
 use Rattle.tp_choices.proofs.PlansOf.{plan_of-contains}
 use Rattle.tp_choices.proofs.Unmoved.{unmoved-found}
 use Rattle.tp_machine.specs.Machines.{IsMachine}

@@ -1,12 +1,12 @@
 -- Bounds and earliest ends of the live part are those of the whole schedule, since each list and each alternative of one is
 -- one of the other with the same end. Shifting places back and forth gives the list again.
 use Rattle.std.proofs.Common.{◌≡◌, ℕ, ◌+◌, ◌≤◌, List, [], ◌∷◌, map, refl, ap, sym, arith, ◌∙◌, subst}
-use Rattle.tp_machine.specs.Using.{action_at}
+use Rattle.tp_machine.specs.ModuleUse.{action_at}
 use Rattle.tp_machine.specs.declared.parts.ActId.{ActId}
 use Rattle.tp_machine.specs.declared.parts.HoldRule.{HoldRule}
 use Rattle.tp_machine.specs.declared.machine.Machine.{Machine}
 use Rattle.tp_schedule.specs.Choices.{Choice, ChoiceList, OpensTo}
-use Rattle.tp_schedule.specs.Holding.{holds_of_act}
+use Rattle.tp_schedule.specs.Holders.{holds_of_act}
 use Rattle.tp_schedule.specs.Plans.{end_of_plan}
 use Rattle.tp_choices.specs.LiveParts.{less, shift_places, shift_choice, shifted, forgotten_on, LiveBounds, LiveIsEarliest, LiveBoundsAnswers, LiveHasNone}
 use Rattle.tp_choices.proofs.Fewer.{less_answers}

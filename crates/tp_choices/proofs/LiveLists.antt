@@ -22,19 +22,19 @@ use Rattle.tp_schedule.proofs.CopyFacts.{plan_of-itself, before-asym}
 use Rattle.tp_schedule.proofs.Membership.{Contains-filter, Contains-filter_from, Contains-map, Contains-map_from}
 use Rattle.tp_schedule.proofs.Pairs.{AllPairs-each}
 use Rattle.tp_choices.specs.LiveParts.{less, MayForget, MayAskBeside, IsJoined, shift_choice, shifted, forgotten_on, LiveOpens}
-use Rattle.tp_choices.proofs.Completing.{point-timed_by}
-use Rattle.tp_choices.proofs.Joining.{join_exists}
+use Rattle.tp_choices.proofs.CompletePlans.{point-timed_by}
+use Rattle.tp_choices.proofs.RejoinedPlans.{join_exists}
 use Rattle.tp_choices.proofs.LiveOrders.{others_of}
 use Rattle.tp_choices.proofs.LiveTimes.{live_retimes}
 use Rattle.tp_choices.proofs.OwnSlots.{own_slots, IsPermutation-placed}
 use Rattle.tp_choices.proofs.PastFacts.{past_points}
 use Rattle.tp_choices.proofs.PointFacts.{past-fixed}
-use Rattle.tp_choices.proofs.Retiming.{ticks_retime, retimed_ticks}
+use Rattle.tp_choices.proofs.RetimedSchedules.{ticks_retime, retimed_ticks}
 use Rattle.tp_choices.proofs.SamePlaces.{kept-sound, own-sound}
 use Rattle.tp_choices.proofs.SameTicks.{IsSameAt, begin-same, end-same, apart-same, in-slots}
 use Rattle.tp_choices.proofs.ShiftedLists.{acts-shifted, lasts-shifted, can_stop-as, apart-base, after-floor, keeping, are-own, keep-own_slots, ended-at, counted, live-order, own-lasts}
 use Rattle.tp_choices.proofs.ShiftedPlaces.{IsParted, IsEnded, BesideAt, placed-beside}
-use Rattle.tp_choices.proofs.Staying.{legal-staying}
+use Rattle.tp_choices.proofs.StayingPlans.{legal-staying}
 use Rattle.tp_choices.proofs.TimedSlots.{All-slots, All-own_slots}
 
 -- ticks of kept points from one, and of own points from another

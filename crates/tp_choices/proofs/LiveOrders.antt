@@ -13,7 +13,7 @@ use Rattle.tp_machine.specs.declared.machine.Machine.{Machine}
 use Rattle.tp_schedule.specs.declared.parts.Plan.{Plan}
 use Rattle.tp_schedule.specs.declared.parts.SheetId.{SheetId}
 use Rattle.tp_schedule.specs.Legality.{IsLegal, EndsBefore}
-use Rattle.tp_schedule.specs.Living.{is_live}
+use Rattle.tp_schedule.specs.LivePlans.{is_live}
 use Rattle.tp_schedule.specs.Plans.{IsEarlier, IsTimedPlan, is_before, is_delivered_to, end_of_plan}
 use Rattle.tp_schedule.specs.Spots.{Spot, Ticks, Slot, IsApart, AreApart, IsSoundSlot, begin_at, slots, slot_order, ticks_of}
 use Rattle.tp_schedule.specs.Spots.Spot.{kept, own}
@@ -26,7 +26,7 @@ use Rattle.tp_choices.proofs.Lists.{filter-all}
 use Rattle.tp_choices.proofs.Parts.{AllPairs-by_part, AllPairs-both_parts, filter-swap, parts-equal}
 use Rattle.tp_choices.proofs.PastFacts.{HasPassed, past_slots}
 use Rattle.tp_choices.proofs.SameTicks.{IsSameAt, same-back, end-same, apart-same, both-apart-same, same-staying, in-slots, in-order, order-staying, sound-slots}
-use Rattle.tp_choices.proofs.Staying.{staying, stays, slots-staying, ticks-staying}
+use Rattle.tp_choices.proofs.StayingPlans.{staying, stays, slots-staying, ticks-staying}
 use Rattle.tp_choices.proofs.TimedSlots.{All-slots}
 use Rattle.tp_choices.proofs.Unmoved.{ordered_pair}
 use Rattle.tp_schedule.proofs.HeldCount.{IsTimedBy}

@@ -9,7 +9,7 @@ use Rattle.tp_schedule.specs.declared.parts.Origin.TheVariants.{Feeder as FromFe
 use Rattle.tp_schedule.specs.Choices.{Choice, ChoiceList, acts_of, IsChild, IsComplete, IsCompleteFrom, IsOpen, IsBound, CanStop, going, stopping}
 use Rattle.tp_schedule.specs.Choices.IsChild.{one_more, stopped}
 use Rattle.tp_schedule.specs.Routes.{walk}
-use Rattle.tp_schedule.specs.Spending.{IsStoredOrEmpty}
+use Rattle.tp_schedule.specs.SpentBudget.{IsStoredOrEmpty}
 use Rattle.tp_schedule.proofs.Membership.{Contains-map, Contains-map_from}
 use Rattle.tp_schedule.proofs.Pairs.{AllPairs-map}
 use Rattle.tp_choices.specs.LiveParts.{less, shift_choice, shifted, forgotten_on, LiveSpends}

@@ -7,14 +7,14 @@ use Rattle.std.proofs.lemmas.Bool.Decides.{nat_tests}
 use Rattle.std.proofs.lemmas.Int.{ints}
 use Rattle.std.proofs.lemmas.List.Elements.{All-append, All-cons, All-nil}
 use Rattle.tp_machine.specs.Modes.{gap_at}
-use Rattle.tp_machine.specs.Using.{action_at}
+use Rattle.tp_machine.specs.ModuleUse.{action_at}
 use Rattle.tp_machine.specs.declared.parts.ActId.{ActId}
 use Rattle.tp_machine.specs.declared.parts.HoldRule.{HoldRule}
 use Rattle.tp_machine.specs.declared.machine.Machine.{Machine}
 use Rattle.tp_schedule.specs.declared.parts.Plan.{Plan}
 use Rattle.tp_schedule.specs.declared.parts.SheetId.{SheetId}
-use Rattle.tp_schedule.specs.Holding.{holds_of_act, runs_from, runs_of}
-use Rattle.tp_schedule.specs.Living.{ends_after, is_held_after, is_live}
+use Rattle.tp_schedule.specs.Holders.{holds_of_act, runs_from, runs_of}
+use Rattle.tp_schedule.specs.LivePlans.{ends_after, is_held_after, is_live}
 use Rattle.tp_schedule.specs.Plans.{point}
 use Rattle.tp_schedule.specs.Spots.{Spot, Ticks, Slot, end_at, slots_by, slots_from, slots_of}
 use Rattle.tp_schedule.specs.Spots.Spot.{kept}

@@ -5,18 +5,18 @@ use Rattle.std.proofs.lemmas.Bool.{cases_lt}
 use Rattle.std.proofs.lemmas.Int.{ints}
 use Rattle.std.proofs.lemmas.List.Edits.{length-insert, get_or-insert_at}
 use Rattle.std.proofs.lemmas.List.Elements.{All-append, All-head, All-tail, All-nil, Contains-get_or}
-use Rattle.tp_choices.proofs.Leaving.{AllPairs-put_places_out}
+use Rattle.tp_choices.proofs.ShorterLists.{AllPairs-put_places_out}
 use Rattle.tp_choices.proofs.OwnSlots.{own_slots, IsPermutation-placed}
-use Rattle.tp_choices.proofs.Placing.{put_places-none, same_number}
+use Rattle.tp_choices.proofs.OwnPlaces.{put_places-none, same_number}
 use Rattle.tp_machine.specs.Machines.{IsMachine}
 use Rattle.tp_machine.specs.Modes.{gap_at}
-use Rattle.tp_machine.specs.Using.{action_at}
+use Rattle.tp_machine.specs.ModuleUse.{action_at}
 use Rattle.tp_schedule.proofs.HeldCount.{Differ, NotOn, others_not_on}
 use Rattle.tp_schedule.proofs.LegalOrders.{sound_by_act, LastsBy}
 use Rattle.tp_schedule.proofs.Pairs.{AllPairs-head, AllPairs-tail, AllPairs-nil, AllPairs-insert_out}
 use Rattle.tp_schedule.proofs.SlotOrder.{apart_unique}
 use Rattle.tp_schedule.specs.Choices.{Choice, acts_of, put_places, placed, AreWithin, HavePlaces, ChoicesLast}
-use Rattle.tp_schedule.specs.Holding.{holds_of_act}
+use Rattle.tp_schedule.specs.Holders.{holds_of_act}
 use Rattle.tp_schedule.specs.Plans.{LastsWithin}
 use Rattle.tp_schedule.specs.Spots.{Spot, Ticks, Slot, IsApart, slots_by, IsSoundSlot}
 use Rattle.std.proofs.lemmas.List.Sorted.{IsPermutation-sym, IsPermutation-trans, All-permutation}
@@ -29,7 +29,7 @@ use Rattle.tp_schedule.specs.declared.parts.Plan.{Plan}
 use Rattle.tp_schedule.specs.Spots.{slots, slot_order, ticks_of}
 use Rattle.tp_schedule.specs.Times.{KeepsTimes}
 use Rattle.tp_machine.proofs.MachineFacts.{is_machine}
-use Rattle.tp_choices.specs.Answering.{TicksFixPlaces}
+use Rattle.tp_choices.specs.Alternatives.{TicksFixPlaces}
 use Rattle.tp_schedule.proofs.SlotOrder.{IsPermutation-by_begin}
 use Rattle.tp_schedule.proofs.LegalOrders.{sound_plans}
 

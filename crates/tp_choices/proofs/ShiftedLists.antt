@@ -19,8 +19,8 @@ use Rattle.tp_schedule.specs.Spots.Spot.{kept, own}
 use Rattle.tp_schedule.specs.Times.{KeepsTimes}
 use Rattle.tp_schedule.proofs.HeldCount.{IsTimedBy}
 use Rattle.tp_choices.specs.LiveParts.{less, MayForget, EndsAhead, shift_choice, forgotten_on}
-use Rattle.tp_choices.proofs.Completing.{ChoicesLast-rise}
-use Rattle.tp_choices.proofs.Leaving.{AllPairs-put_places_out}
+use Rattle.tp_choices.proofs.CompletePlans.{ChoicesLast-rise}
+use Rattle.tp_choices.proofs.ShorterLists.{AllPairs-put_places_out}
 use Rattle.tp_choices.proofs.LiveOrders.{others_of, filter-same, stays-others}
 use Rattle.tp_choices.proofs.LiveSlots.{slots-in, slot_of}
 use Rattle.tp_choices.proofs.OwnSlots.{own_slots}
@@ -29,7 +29,7 @@ use Rattle.tp_choices.proofs.PointFacts.{past-fixed}
 use Rattle.tp_choices.proofs.SamePlaces.{kept-sound}
 use Rattle.tp_choices.proofs.SameTicks.{in-order, order-staying}
 use Rattle.tp_choices.proofs.ShiftedPlaces.{IsEnded, AreOwn}
-use Rattle.tp_choices.proofs.Staying.{stays, on_copy}
+use Rattle.tp_choices.proofs.StayingPlans.{stays, on_copy}
 use Rattle.tp_choices.proofs.TimedSlots.{All-own_slots}
 
 pub acts-shifted : (machine : Machine) (counts : ℕ → ℕ) (choices : List Choice) → acts_of (map (shift_choice machine counts) choices) ≡ acts_of choices

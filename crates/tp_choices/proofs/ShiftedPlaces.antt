@@ -10,21 +10,21 @@ use Rattle.std.proofs.lemmas.List.Elements.{All-head, All-tail, All-nil, Contain
 use Rattle.std.proofs.lemmas.List.Filters.{length-filter_both}
 use Rattle.tp_machine.proofs.ModeFacts.{gap_between-most}
 use Rattle.tp_machine.specs.Modes.{gap_at}
-use Rattle.tp_machine.specs.Using.{action_at}
+use Rattle.tp_machine.specs.ModuleUse.{action_at}
 use Rattle.tp_machine.specs.declared.parts.Action.{Action}
 use Rattle.tp_machine.specs.declared.parts.ActId.{ActId}
 use Rattle.tp_machine.specs.declared.parts.HoldRule.{HoldRule}
 use Rattle.tp_machine.specs.declared.machine.Machine.{Machine}
 use Rattle.tp_schedule.proofs.Membership.{Contains-filter}
 use Rattle.tp_schedule.specs.Choices.{Choice, put_places, placed, AreWithin, HavePlaces, ChoicesLast}
-use Rattle.tp_schedule.specs.Holding.{holds_of_act}
+use Rattle.tp_schedule.specs.Holders.{holds_of_act}
 use Rattle.tp_schedule.specs.Plans.{LastsWithin}
 use Rattle.tp_schedule.specs.Spots.{Spot, Ticks, Slot, IsApart, begin_at, end_at}
 use Rattle.tp_schedule.specs.Spots.Spot.{own}
 use Rattle.tp_choices.specs.LiveParts.{shift_places, shift_choice}
 use Rattle.tp_choices.proofs.EachSlot.{later_slot}
-use Rattle.tp_choices.proofs.Leaving.{AllPairs-put_places_out}
-use Rattle.tp_choices.proofs.Shifting.{Beside, insert-beside}
+use Rattle.tp_choices.proofs.ShorterLists.{AllPairs-put_places_out}
+use Rattle.tp_choices.proofs.PlaceShifts.{Beside, insert-beside}
 
 -- a hold that is forgotten is not empty, and has ended a gap before the moment
 pub record IsEnded (gap : ℕ) (t : Ticks) (now : ℕ) (s : Slot) : Type 0 where

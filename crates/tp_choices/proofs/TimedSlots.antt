@@ -2,10 +2,10 @@
 use Rattle.std.proofs.Common.{◌≡◌, ℕ, suc, ◌+◌, ◌<◌, Bool, true, false, cond, ◌==◌, List, [], ◌∷◌, ◌++◌, map, insert, length, filter, refl, ap, arith, Contains, All, ◌∙◌}
 use Rattle.std.proofs.lemmas.List.Elements.{All-append, All-cons, All-nil}
 use Rattle.tp_choices.proofs.OwnSlots.{own_slots}
-use Rattle.tp_machine.specs.Using.{action_at}
+use Rattle.tp_machine.specs.ModuleUse.{action_at}
 use Rattle.tp_schedule.proofs.Membership.{Contains-here, Contains-later}
 use Rattle.tp_schedule.specs.Choices.{Choice, put_places, placed}
-use Rattle.tp_schedule.specs.Holding.{holds_of_act}
+use Rattle.tp_schedule.specs.Holders.{holds_of_act}
 use Rattle.tp_schedule.specs.Spots.{Spot, Ticks, Slot, slots_by, slots_from, slots_of, slots}
 use Rattle.tp_schedule.specs.Times.{timed_by}
 use Rattle.tp_machine.specs.declared.parts.ActId.{ActId}

@@ -8,21 +8,21 @@ use Rattle.std.proofs.lemmas.List.Edits.{length-insert}
 use Rattle.std.proofs.lemmas.List.Elements.{All-head, All-tail}
 use Rattle.tp_machine.proofs.MachineFacts.{is_machine}
 use Rattle.tp_machine.specs.Modes.{gap_at}
-use Rattle.tp_machine.specs.Using.{action_at}
+use Rattle.tp_machine.specs.ModuleUse.{action_at}
 use Rattle.tp_machine.specs.declared.parts.Action.{Action}
 use Rattle.tp_machine.specs.declared.parts.HoldRule.{HoldRule}
 use Rattle.tp_machine.specs.declared.machine.Machine.{Machine}
 use Rattle.tp_schedule.proofs.HeldCount.{Differ, NotOn, others_not_on}
 use Rattle.tp_schedule.proofs.Pairs.{AllPairs-head, AllPairs-tail, AllPairs-nil, AllPairs-insert_out}
 use Rattle.tp_schedule.specs.Choices.{Choice, put_places, placed, AreWithin, HavePlaces, ChoicesLast}
-use Rattle.tp_schedule.specs.Holding.{holds_of_act}
+use Rattle.tp_schedule.specs.Holders.{holds_of_act}
 use Rattle.tp_schedule.specs.Spots.{Spot, Ticks, Slot}
 use Rattle.tp_schedule.specs.Spots.Spot.{own}
 use Rattle.tp_choices.specs.LiveParts.{shift_places, shift_choice}
-use Rattle.tp_choices.proofs.Leaving.{AllPairs-put_places_out}
-use Rattle.tp_choices.proofs.Placing.{put_places-none, same_number}
+use Rattle.tp_choices.proofs.ShorterLists.{AllPairs-put_places_out}
+use Rattle.tp_choices.proofs.OwnPlaces.{put_places-none, same_number}
 use Rattle.tp_choices.proofs.ShiftedPlaces.{IsParted, IsLate, IsOwn, AreOwn, never, own-rules}
-use Rattle.tp_choices.proofs.Shifting.{IsOut, insert-out}
+use Rattle.tp_choices.proofs.PlaceShifts.{IsOut, insert-out}
 
 -- places nearer by so many
 unshift_places : (ℕ → ℕ) → List HoldRule → List ℕ → List ℕ

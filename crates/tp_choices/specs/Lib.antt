@@ -1,4 +1,4 @@
-pub mod Answering
+pub mod Alternatives
 pub mod Parents
 pub mod Frontiers
 pub mod Searches
@@ -11,6 +11,6 @@ pub use Rattle.tp_schedule.specs.Spots
 pub use Rattle.tp_schedule.specs.Times
 pub use Rattle.tp_schedule.specs.Answers
 pub use Rattle.tp_schedule.specs.Choices
-pub use Rattle.tp_schedule.specs.Spending
+pub use Rattle.tp_schedule.specs.SpentBudget
 pub use Rattle.tp_schedule.specs.Completions
-pub use Rattle.tp_schedule.specs.Living
+pub use Rattle.tp_schedule.specs.LivePlans

@@ -4,7 +4,7 @@ use Rattle.tp_machine.specs.declared.machine.Machine.{Machine}
 use Rattle.tp_schedule.specs.Answers.{IsAsked}
 use Rattle.tp_schedule.specs.Choices.{ChoiceList, IsOpen, OpensTo, IsBound, IsChild, IsComplete}
 use Rattle.tp_schedule.specs.Legality.{IsLegal}
-use Rattle.tp_schedule.specs.Spending.{FewListsOpen, IsStoredOrEmpty, IsSpent}
+use Rattle.tp_schedule.specs.SpentBudget.{FewListsOpen, IsStoredOrEmpty, IsSpent}
 use Rattle.tp_schedule.specs.declared.parts.Ask.{Ask}
 use Rattle.tp_schedule.specs.declared.parts.Plan.{Plan}
 use Rattle.tp_choices.specs.Frontiers.{IsMet, IsFrontier, NoneOpensBelow}

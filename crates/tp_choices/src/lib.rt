@@ -2,7 +2,7 @@
 //! the law.
 #![tactic(auto)]
 
-ghost use Rattle.tp_choices.specs.Answering.{AnswerOpens, CompleteAnswers, TicksFixPlaces};
+ghost use Rattle.tp_choices.specs.Alternatives.{AnswerOpens, CompleteAnswers, TicksFixPlaces};
 ghost use Rattle.tp_choices.specs.Frontiers.{FrontierBegins, FrontierBounds, FrontierEnds, FrontierGoesOn, TakenIsEarliest};
 ghost use Rattle.tp_choices.specs.LiveParts.{JoinExists, LessAnswers, LiveAnswers, LiveBounds, LiveBoundsAnswers, LiveHasFew, LiveHasNone, LiveIsEarliest, LiveIsLeast, LiveOpens, LiveRetimes, LiveSpends, WholeAnswers, WholeIsLeast, WholeOpens, WholeRetimes};
 ghost use Rattle.tp_choices.specs.Parents.{ParentBound, ParentOpens};

@@ -1,9 +1,9 @@
 //! The words of the command line.
 #![tactic(auto)]
 
-mod matching;
-mod reading;
 mod request;
+mod request_reader;
+mod word_matches;
 
-pub use reading::{read_request, read_seed};
 pub use request::{Mode, Request, WordsFault};
+pub use request_reader::{read_request, read_seed};

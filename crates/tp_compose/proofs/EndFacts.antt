@@ -13,7 +13,7 @@ use Rattle.tp_compose.specs.TypeRules.{is_short, is_short_text, are_shorts, has_
 use Rattle.tp_compose.specs.EndRules.{is_end_text, is_end}
 use Rattle.tp_compose.proofs.Lists.{In, Apart, in_map, in_map_back, in_flat, in_flat_back, all_in, among_in}
 use Rattle.tp_compose.proofs.Puts.{put_some, put_there}
-use Rattle.tp_compose.proofs.Spelling.{lacks, marked, short_lacks, marked_dotted, lacks_dotted}
+use Rattle.tp_compose.proofs.SpelledNames.{lacks, marked, short_lacks, marked_dotted, lacks_dotted}
 use Rattle.tp_compose.proofs.KeptRack.{KeepsRackRules}
 
 -- ---- look-ups

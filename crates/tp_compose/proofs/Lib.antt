@@ -1,13 +1,13 @@
 pub mod Lists
 pub mod Puts
 pub mod Built
-pub mod Spelling
+pub mod SpelledNames
 pub mod KeptRack
 pub mod EndFacts
 pub mod Joins
 pub mod Places
 pub mod FlatFacts
-pub mod Stepping
+pub mod MovedSteps
 pub mod Rows
 pub mod EntryFacts
 pub mod WalkLaw

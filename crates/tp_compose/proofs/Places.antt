@@ -5,7 +5,7 @@ use Rattle.tp_machine_text.specs.Words.{text_of, text_in}
 use Rattle.tp_compose.specs.Racks.{own_names, location_of}
 use Rattle.tp_compose.specs.EndRules.{is_end_text}
 use Rattle.tp_compose.specs.Walks.{IsOnePlace}
-use Rattle.tp_compose.proofs.Spelling.{lacks, marked, marked_back}
+use Rattle.tp_compose.proofs.SpelledNames.{lacks, marked, marked_back}
 use Rattle.tp_compose.proofs.EndFacts.{own_is, end_some}
 use Rattle.tp_compose.proofs.Joins.{first_of, place_first, first_place, first_end}
 use Rattle.tp_compose.proofs.KeptRack.{KeepsRackRules}

@@ -2,7 +2,7 @@
 use Rattle.std.proofs.Common.{◌≡◌, inl, inr, ℕ, List, [], ◌∷◌, map, Some, None, slice_get, refl, ap, sym, ◌∙◌, subst}
 use Rattle.std.specs.Prelude.{codes, Contains}
 use Rattle.toml.specs.Data.{Data, Members}
-use Rattle.tp_machine.specs.Using.{action_at}
+use Rattle.tp_machine.specs.ModuleUse.{action_at}
 use Rattle.tp_machine.specs.declared.parts.ActId.{ActId}
 use Rattle.tp_machine.specs.declared.parts.Action.{Action}
 use Rattle.tp_machine.specs.declared.machine.Machine.{Machine}
@@ -18,7 +18,7 @@ use Rattle.tp_compose.specs.Flat.{flat_action, part_actions, actions, flat}
 use Rattle.tp_compose.specs.Texts.{flat_broken, IsMachineOfRack}
 use Rattle.tp_compose.specs.Walks.{Pair, IsPair, IsPairOf}
 use Rattle.tp_compose.proofs.Lists.{In, Apart, apart_of, in_any, any_in, in_contained, contained_in, in_map, in_map_back, in_flat_back, in_slice}
-use Rattle.tp_compose.proofs.Spelling.{short_lacks, split}
+use Rattle.tp_compose.proofs.SpelledNames.{short_lacks, split}
 use Rattle.tp_compose.proofs.KeptRack.{KeepsRackRules, kept}
 use Rattle.tp_compose.proofs.EndFacts.{deeds, one_type, part_short}
 use Rattle.tp_compose.proofs.FlatFacts.{modules_are, actions_are, action_name}

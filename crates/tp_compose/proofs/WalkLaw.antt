@@ -30,7 +30,7 @@ use Rattle.tp_compose.proofs.Puts.{in_all, in_all_back}
 use Rattle.tp_compose.proofs.EndFacts.{deed_ends, deeds, port_end, end_text}
 use Rattle.tp_compose.proofs.Places.{same_place, one_place}
 use Rattle.tp_compose.proofs.FlatFacts.{trays_are, feeders_are, actions_are, from_is, action_from, action_to, to_is, same_mono, same_colour, same_flip, work_from, work_to}
-use Rattle.tp_compose.proofs.Stepping.{put_at, lifted}
+use Rattle.tp_compose.proofs.MovedSteps.{put_at, lifted}
 use Rattle.tp_compose.proofs.Rows.{rules, flat_rules, action_by, flat_by_pair, IsRow, IsLike, like_of}
 use Rattle.tp_compose.proofs.EntryFacts.{IsEntry, entry_data, entry_feeder, entry_key, equal_test, feeder_entry, loc_name, name_text, placed_keys, test_equal}
 

@@ -1,7 +1,7 @@
 //! What holds of all racks. The call does nothing: its contract is the law.
 ghost use Rattle.std.specs.Prelude.{◌≡◌, ◌↔◌, List, Some};
 ghost use Rattle.toml.specs.Data.{Members};
-ghost use Rattle.tp_machine.specs.Using.{action_at};
+ghost use Rattle.tp_machine.specs.ModuleUse.{action_at};
 ghost use Rattle.tp_machine.specs.declared.parts.ActId.{ActId};
 ghost use Rattle.tp_machine.specs.declared.parts.Action.{Action};
 ghost use Rattle.tp_machine.specs.declared.parts.Sheet.{Sheet};

@@ -1,11 +1,11 @@
 //! Machines composed of the parts of a rack.
 #![tactic(auto)]
 
-mod composing;
-mod ends;
-mod flattening;
+mod end_rules;
+mod flat_table;
 mod laws;
-mod types;
+mod rack_machine;
+mod type_rules;
 
-pub use composing::{RackFault, compose};
 pub use laws::walks_are_routes;
+pub use rack_machine::{RackFault, compose};

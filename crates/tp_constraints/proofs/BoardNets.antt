@@ -10,12 +10,12 @@ use Rattle.tp_constraints.specs.Suffixes.{SuffixTimes, IsSuffixPoint, suffix_low
 use Rattle.tp_constraints.specs.Numbers.{gap_by, IsNetFor}
 use Rattle.tp_constraints.specs.Laws.{no_own, plans_gaps, LoadedTimes}
 use Rattle.tp_constraints.specs.Nets.{LoadNet, GoalNet, ActionNet, PlaceNet, StopNet}
-use Rattle.tp_choices.proofs.Completing.{ChoicesLast-rise}
+use Rattle.tp_choices.proofs.CompletePlans.{ChoicesLast-rise}
 use Rattle.tp_constraints.proofs.ScheduleGaps.{gaps_law}
 use Rattle.tp_constraints.proofs.Rooms.{room-first, room-later}
 use Rattle.tp_constraints.proofs.Steps.{goal_law, action_law, stop_law}
-use Rattle.tp_constraints.proofs.Placing.{place_law}
-use Rattle.tp_constraints.proofs.Growing.{edges-step, point-step}
+use Rattle.tp_constraints.proofs.PlaceGaps.{place_law}
+use Rattle.tp_constraints.proofs.MoreEdges.{edges-step, point-step}
 
 pub load_net : LoadNet
 load_net machine now exempt plans table net load is_table lows caps edges needed only = record {

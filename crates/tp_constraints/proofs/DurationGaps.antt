@@ -3,7 +3,7 @@ use Rattle.std.proofs.Common.{◌≡◌, ℕ, zero, suc, ◌+◌, ◌≤◌, Lis
 use Rattle.std.specs.Prelude.{◌≤ℤ◌, ◌+ℤ◌, pos, neg_ℤ, slice_get}
 use Rattle.std.proofs.lemmas.List.Elements.{All-nil, All-cons, All-head, All-tail, All-append}
 use Rattle.std.proofs.lemmas.Int.{ints}
-use Rattle.tp_machine.specs.Using.{action_at}
+use Rattle.tp_machine.specs.ModuleUse.{action_at}
 use Rattle.tp_machine.specs.declared.parts.Action.{Action}
 use Rattle.tp_machine.specs.declared.parts.ActId.{ActId}
 use Rattle.tp_machine.specs.declared.machine.Machine.{Machine}

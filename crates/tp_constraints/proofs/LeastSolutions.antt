@@ -13,14 +13,14 @@ use Rattle.tp_schedule.specs.Spots.Spot.{kept, own}
 use Rattle.tp_schedule.specs.Times.{at, timed_by}
 use Rattle.tp_schedule.specs.Choices.{Choice, HasTimes, IsChoiceList, acts_of}
 use Rattle.tp_choices.specs.Retimings.{NoLater}
-use Rattle.tp_choices.proofs.Retiming.{ticks_retime, retimed_ticks}
+use Rattle.tp_choices.proofs.RetimedSchedules.{ticks_retime, retimed_ticks}
 use Rattle.tp_constraints.specs.Suffixes.{Suffix, list_of, SuffixTimes, HaveRooms}
 use Rattle.tp_constraints.specs.Numbers.{ticks_by}
 use Rattle.tp_constraints.specs.Nets.{IsBoardNet}
 use Rattle.tp_constraints.specs.Leasts.{CommitLaw, BoundLaw, SettleLaw}
 use Rattle.tp_schedule.proofs.Membership.{Contains-map, Contains-map_from}
-use Rattle.tp_choices.proofs.Leaving.{HasTimes-less}
-use Rattle.tp_choices.proofs.Completing.{point-timed_by}
+use Rattle.tp_choices.proofs.ShorterLists.{HasTimes-less}
+use Rattle.tp_choices.proofs.CompletePlans.{point-timed_by}
 use Rattle.tp_choices.proofs.CompleteAnswers.{complete_answers}
 use Rattle.tp_choices.proofs.LeastAnswers.{least_answers}
 use Rattle.tp_constraints.proofs.Rooms.{first-of, room_law}

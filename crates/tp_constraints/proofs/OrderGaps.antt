@@ -4,7 +4,7 @@ use Rattle.std.specs.Prelude.{◌≤ℤ◌, ◌+ℤ◌, pos}
 use Rattle.std.proofs.lemmas.List.Elements.{All-nil, All-cons, All-head, All-tail, All-append}
 use Rattle.std.proofs.lemmas.Int.{ints}
 use Rattle.tp_machine.specs.Modes.{gap_at, gap_between}
-use Rattle.tp_machine.specs.Using.{tick_of}
+use Rattle.tp_machine.specs.ModuleUse.{tick_of}
 use Rattle.tp_machine.specs.declared.parts.Anchor.{Anchor}
 use Rattle.tp_machine.specs.declared.parts.Anchor.TheVariants.{Start, End}
 use Rattle.tp_machine.specs.declared.machine.Machine.{Machine}

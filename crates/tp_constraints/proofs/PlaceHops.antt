@@ -1,13 +1,13 @@
 -- What a place adds are hops, and what stood before another still does.
-use Rattle.tp_constraints.proofs.Hopping.{lift-hop, lift-hops}
+use Rattle.tp_constraints.proofs.NeighbourHops.{lift-hop, lift-hops}
 use Rattle.std.proofs.Common.{◌≡◌, ℕ, zero, suc, ◌≤◌, ◌<◌, Bool, true, false, cond, ◌==◌, List, [], ◌∷◌, ◌++◌, length, insert, refl, sym, arith, All, ◌∙◌, ap, subst, Option, Some, None}
 use Rattle.std.specs.Prelude.{slice_get}
 use Rattle.std.proofs.lemmas.List.Elements.{All-nil, All-cons, All-append}
 use Rattle.std.proofs.lemmas.Bool.Decides.{nat_tests}
-use Rattle.tp_machine.specs.Using.{action_at}
+use Rattle.tp_machine.specs.ModuleUse.{action_at}
 use Rattle.tp_machine.specs.declared.parts.HoldRule.{HoldRule}
 use Rattle.tp_machine.specs.declared.machine.Machine.{Machine}
-use Rattle.tp_schedule.specs.Holding.{holds_of_act}
+use Rattle.tp_schedule.specs.Holders.{holds_of_act}
 use Rattle.tp_schedule.specs.declared.parts.Ask.{Ask}
 use Rattle.tp_schedule.specs.declared.parts.Plan.{Plan}
 use Rattle.tp_schedule.specs.Spots.{Slot, slot_order}
@@ -16,7 +16,7 @@ use Rattle.tp_schedule.specs.Choices.{Choice, placed}
 use Rattle.tp_constraints.specs.Suffixes.{Suffix, order_in, before_place, place_first, with_place, choice_slot}
 use Rattle.tp_constraints.specs.Hops.{Hop, IsHop, slot_hop, hop_after, hop_until, place_hops, PlaceHops}
 use Rattle.tp_constraints.specs.Hops.IsHop.{by_order}
-use Rattle.tp_constraints.proofs.Placing.{put_places-push}
+use Rattle.tp_constraints.proofs.PlaceGaps.{put_places-push}
 use Rattle.tp_constraints.proofs.Runs.{acts-replaced}
 
 -- what stood before another still does after a hold was put in

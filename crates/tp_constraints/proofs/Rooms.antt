@@ -10,7 +10,7 @@ use Rattle.tp_schedule.specs.Spots.{Ticks}
 use Rattle.tp_schedule.specs.Spots.Spot.{own}
 use Rattle.tp_schedule.specs.Choices.{Choice, acts_of, start_floor, ChoicesLast}
 use Rattle.tp_schedule.proofs.Walks.{walk_on, least_sum-push, AreAllowed-tail, AreAllowed-head, AreAllowed-push}
-use Rattle.tp_choices.proofs.Leaving.{LastsWithin-least}
+use Rattle.tp_choices.proofs.ShorterLists.{LastsWithin-least}
 use Rattle.tp_constraints.specs.Suffixes.{room_of, HaveRooms}
 use Rattle.tp_constraints.specs.Laws.{RoomLaw}
 use Rattle.std.proofs.lemmas.Bool.{cases_lt}

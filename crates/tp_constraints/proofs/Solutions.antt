@@ -14,7 +14,7 @@ use Rattle.tp_constraints.specs.Nets.{BoardSolutions, LoadedSolutions, BoardLate
 use Rattle.tp_constraints.specs.Laws.{LoadedTimes, no_own}
 use Rattle.std.proofs.lemmas.Option.{slice_get_within}
 use Rattle.tp_constraints.proofs.Lists.{get-there, contains-get, get-contains, index-map}
-use Rattle.tp_constraints.proofs.Numbering.{number-at}
+use Rattle.tp_constraints.proofs.PointNumbers.{number-at}
 use Rattle.std.proofs.lemmas.List.{length-map}
 
 module _ (known : Spot → Type 0) (low cap : Spot → ℕ) (times : Ticks → Type 0) (table : List Spot) (net : Net) (is : IsNetFor known low cap times table net) where

@@ -15,7 +15,7 @@ use Rattle.tp_schedule.specs.Choices.{start_floor}
 use Rattle.tp_constraints.specs.Gaps.{Gap, KeepsGap, KeepsGaps, gap, duration_gaps, all_chains, line_gaps, IsPoint, Within}
 use Rattle.tp_constraints.specs.Suffixes.{Suffix, room_of, IsSuffix, SuffixTimes, choice_gaps, end_gap, end_gaps, stop_gaps, suffix_gaps, suffix_low, suffix_cap, order_in}
 use Rattle.tp_constraints.specs.Laws.{IsLoadable, SuffixLaw}
-use Rattle.tp_choices.proofs.Completing.{ChoicesLast-rise}
+use Rattle.tp_choices.proofs.CompletePlans.{ChoicesLast-rise}
 use Rattle.tp_constraints.proofs.Lists.{All-split}
 use Rattle.tp_constraints.proofs.DurationGaps.{each-from_flat, flat-from_each, last-from_gaps, gaps-from_last}
 use Rattle.tp_constraints.proofs.OrderGaps.{apart-from_gaps, gaps-from_apart, chains-all}

@@ -1,14 +1,14 @@
 -- The gaps that a reason may cite, each with what it stands for, and that each step of a board leaves them so.
 use Rattle.std.specs.Prelude.{◌≡◌, ℕ, zero, suc, ◌<◌, ◌≤◌, false, List, [], ◌∷◌, ◌++◌, flat_map, length, map, reverse, All, Contains, IsTrue, IsFalse, slice_get, Option, Some, None, pos, neg_ℤ}
 use Rattle.tp_machine.specs.Modes.{gap_at}
-use Rattle.tp_machine.specs.Using.{action_at}
+use Rattle.tp_machine.specs.ModuleUse.{action_at}
 use Rattle.tp_machine.specs.declared.parts.ActId.{ActId}
 use Rattle.tp_machine.specs.declared.parts.Action.{Action}
 use Rattle.tp_machine.specs.declared.parts.HoldRule.{HoldRule}
 use Rattle.tp_machine.specs.declared.machine.Machine.{Machine}
 use Rattle.tp_schedule.specs.Answers.{kept_of}
 use Rattle.tp_schedule.specs.Choices.{Choice}
-use Rattle.tp_schedule.specs.Holding.{holds_of_act}
+use Rattle.tp_schedule.specs.Holders.{holds_of_act}
 use Rattle.tp_schedule.specs.Legality.{IsLegal}
 use Rattle.tp_schedule.specs.Plans.{IsEarlier}
 use Rattle.tp_schedule.specs.Spots.{Spot, Slot, slot_order}

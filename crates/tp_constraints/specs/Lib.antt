@@ -7,3 +7,9 @@ pub mod Leasts
 pub mod Hops
 pub mod Supports
 pub mod Walks
+pub mod Puts
+pub mod AddedPlan
+pub mod Moments
+pub mod Ways
+pub mod WayLaws
+pub mod Ends

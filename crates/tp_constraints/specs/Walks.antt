@@ -4,10 +4,10 @@ use Rattle.std.specs.Prelude.{◌≡◌, ◌↔◌, ℕ, ◌≤◌, List, ◌∷
 use Rattle.tp_base.specs.Net.{Net, IsSolution, HasNoSolution, with_edges}
 use Rattle.tp_base.specs.declared.edges.Edge.{Edge}
 use Rattle.tp_machine.specs.Modes.{gap_at}
-use Rattle.tp_machine.specs.Using.{action_at}
+use Rattle.tp_machine.specs.ModuleUse.{action_at}
 use Rattle.tp_machine.specs.declared.machine.Machine.{Machine}
 use Rattle.tp_schedule.specs.Choices.{Choice}
-use Rattle.tp_schedule.specs.Holding.{holds_of_act}
+use Rattle.tp_schedule.specs.Holders.{holds_of_act}
 use Rattle.tp_schedule.specs.Spots.{Spot, Slot, Ticks}
 use Rattle.tp_schedule.specs.declared.parts.Ask.{Ask}
 use Rattle.tp_schedule.specs.declared.parts.Plan.{Plan}

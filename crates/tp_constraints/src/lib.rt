@@ -10,6 +10,16 @@ ghost use Rattle.tp_constraints.specs.Numbers.{TableLaw};
 ghost use Rattle.tp_constraints.specs.Supports.{LeastIsSupported, SupportedIsLeast, UnmarkedIsLater};
 ghost use Rattle.tp_constraints.specs.Walks.{BeforeHops, BeforeNet, EarlierNet, StandHops, StandNet, StartHops, StartNet, WalkAhead, WalkLate, WalkPlace, WalkShut, WalkSolutions, WalkStart, WalkStep};
 
+mod choice_ways;
+mod growth;
+
+pub use choice_ways::{
+    complete_ways_are_answers, complete_ways_start, late_lists_stay_shut,
+    lists_without_room_stay_shut, open_lists_have_places, steps_make_ways, ways_are_lists,
+    ways_open_by_their_times,
+};
+pub use growth::{moments_move_bounds, plans_are_added};
+
 /// Ticks keep a schedule's shape and its orders exactly where they keep bounds and gaps. Neighbours in an order are
 /// enough, since no hold is empty.
 pub fn schedules_are_gaps()

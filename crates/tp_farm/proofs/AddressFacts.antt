@@ -3,7 +3,7 @@ use Rattle.std.proofs.Common.{◌≡◌, ℕ, ◌≤◌, Bool, true, false, cond
 use Rattle.std.specs.Prelude.{codes}
 use Rattle.std.specs.Str.{bytes_eq}
 use Rattle.tp_script.specs.Printed.{IsEchoed}
-use Rattle.tp_script.specs.Reading.{event_of}
+use Rattle.tp_script.specs.EventReaders.{event_of}
 use Rattle.tp_script.specs.Script.{IsEvent, IsOff, is_passed, words_of_line}
 use Rattle.tp_script.specs.declared.event.Event.{Event}
 use Rattle.tp_script.specs.declared.event.Event.TheVariants.{Bad, Job, Clock, Jam, Off, On, Refill}

@@ -3,7 +3,7 @@ use Rattle.std.proofs.Common.{◌≡◌, ℕ, List, [], ◌∷◌, ◌++◌, len
 use Rattle.std.specs.Option.{MatchOption}
 use Rattle.tp_script.specs.declared.event.Event.{Event}
 use Rattle.tp_stream.specs.Answers.{AnswersAll}
-use Rattle.tp_teller.specs.declared.probe.Probe.{Probe}
+use Rattle.tp_stream.specs.declared.probe.Probe.{Probe}
 use Rattle.tp_farm.specs.Addresses.{line_address}
 use Rattle.tp_farm.specs.Farms.{AnswersLine, AnswersSent, FarmState, SendsLines, Sent}
 use Rattle.tp_farm.specs.declared.address.Addressed.{Addressed}

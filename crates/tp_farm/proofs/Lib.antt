@@ -2,6 +2,6 @@ pub mod WordFacts
 pub mod AddressFacts
 pub mod NumberedFacts
 pub mod SendingFacts
-pub mod Parting
+pub mod MachineParts
 pub mod Gathered
 pub mod ListFacts

@@ -5,12 +5,12 @@ use Rattle.std.specs.List.{All, AllZip}
 use Rattle.std.proofs.lemmas.List.{append-nil, drop-drop, drop-set-lt, get_or-drop, length-map, length-set, length-take-le, map-append, set-get_or, take_all, take_more, take_more_set}
 use Rattle.std.proofs.lemmas.List.Elements.{All-set, All-weaker}
 use Rattle.tp_script.specs.declared.event.Event.{Event}
-use Rattle.tp_farm.specs.Choosing.{is_accepted, place_for}
+use Rattle.tp_farm.specs.MachineChoice.{is_accepted, place_for}
 use Rattle.tp_farm.specs.Farms.{TellsAt, TellsFrom, is_for}
 use Rattle.tp_farm.specs.Inside.{IsFarm, IsProbedAt, IsReady, IsToldAt}
 use Rattle.tp_farm.specs.Numbered.{numbered}
-use Rattle.tp_teller.specs.Tellers.{most_events}
-use Rattle.tp_teller.specs.declared.probe.Probe.{Probe}
+use Rattle.tp_stream.specs.Tellers.{most_events}
+use Rattle.tp_stream.specs.declared.probe.Probe.{Probe}
 use Rattle.tp_farm.specs.declared.whom.Whom.{Whom}
 
 -- ---- the lists of what holds of tellers

@@ -2,7 +2,7 @@
 use Rattle.std.specs.Prelude.{◌≡◌, ◌⊎◌, ℕ, ◌+◌, ◌-◌, Bool, true, false, ◌&&◌, nat_le, List, [], ◌∷◌, codes, Option, Some, None, IfSome, if◌then◌else◌}
 use Rattle.std.specs.Str.{bytes_eq}
 use Rattle.tp_script.specs.Printed.{IsEchoed}
-use Rattle.tp_script.specs.Reading.{event_of}
+use Rattle.tp_script.specs.EventReaders.{event_of}
 use Rattle.tp_script.specs.Script.{is_passed, words_of_line}
 use Rattle.tp_script.specs.declared.event.Event.{Event}
 use Rattle.tp_script.specs.declared.event.Event.TheVariants.{Bad, Jam, Off, On, Refill}

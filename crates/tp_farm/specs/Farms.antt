@@ -8,10 +8,10 @@ use Rattle.std.specs.Str.{bytes_eq}
 use Rattle.tp_script.specs.declared.event.Event.{Event}
 use Rattle.tp_script.specs.declared.event.Event.TheVariants.{Job, Clock}
 use Rattle.tp_stream.specs.Takes.{ends_whole}
-use Rattle.tp_teller.specs.Tellers.{TellsAll}
-use Rattle.tp_teller.specs.declared.probe.Probe.{Probe}
+use Rattle.tp_stream.specs.Tellers.{TellsAll}
+use Rattle.tp_stream.specs.declared.probe.Probe.{Probe}
 use Rattle.tp_farm.specs.Addresses.{line_address}
-use Rattle.tp_farm.specs.Choosing.{is_accepted, place_for}
+use Rattle.tp_farm.specs.MachineChoice.{is_accepted, place_for}
 use Rattle.tp_farm.specs.Numbered.{numbered, told_by}
 use Rattle.tp_farm.specs.declared.address.Addressed.{Addressed}
 use Rattle.tp_farm.specs.declared.whom.Whom.{Whom}

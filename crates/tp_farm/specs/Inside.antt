@@ -1,7 +1,7 @@
 -- What a farm is seen as, and what it keeps.
 use Rattle.std.specs.Prelude.{◌≡◌, ℕ, ◌+◌, ◌≤◌, List, [], ◌++◌, length, map, slice_index_or, slice_set, All, Result, IfOk, OnOk}
 use Rattle.tp_script.specs.declared.event.Event.{Event}
-use Rattle.tp_teller.specs.declared.probe.Probe.{Probe}
+use Rattle.tp_stream.specs.declared.probe.Probe.{Probe}
 use Rattle.tp_farm.specs.Farms.{FarmState, TellsAt, farm_of}
 use Rattle.tp_farm.specs.declared.whom.Whom.{Whom}
 

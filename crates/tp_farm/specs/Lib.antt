@@ -1,4 +1,4 @@
-pub mod Choosing
+pub mod MachineChoice
 pub mod Addresses
 pub mod Numbered
 pub mod Farms

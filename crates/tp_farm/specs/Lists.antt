@@ -1,8 +1,8 @@
 -- The list of a farm's machines: names on the shelf, one on a line.
 use Rattle.std.specs.Prelude.{◌≡◌, ℕ, ◌+◌, ◌-◌, ◌≤◌, ◌==◌, Bool, ◌&&◌, nat_le, List, [], length, slice_get, slice_index_or, take, All, Option, Some, None, IsUtf8, if◌then◌else◌}
 use Rattle.tp_words.specs.Parts.{parts_at}
-use Rattle.tp_farm.specs.declared.listing.ListFault.{ListFault}
-use Rattle.tp_farm.specs.declared.listing.ListFault.TheVariants.{Memory, Lines, Name}
+use Rattle.tp_farm.specs.declared.machine_list.ListFault.{ListFault}
+use Rattle.tp_farm.specs.declared.machine_list.ListFault.TheVariants.{Memory, Lines, Name}
 
 -- cut at its LFs the list has 2 to 9 parts, of which the last is empty: so it is 1 to 8 lines, each ended by a LF
 abbrev pub is_list : List (List ℕ) → Bool

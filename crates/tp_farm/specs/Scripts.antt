@@ -4,7 +4,7 @@ use Rattle.tp_script.specs.declared.event.Event.{Event}
 use Rattle.tp_stream.specs.Scripts.{NoRefusal, line_bytes, most_lines}
 use Rattle.tp_stream.specs.Takes.{IsReadFrom, Stops, TakesAll, place_of}
 use Rattle.tp_stream.specs.declared.stop.Stop.{Stop}
-use Rattle.tp_teller.specs.declared.probe.Probe.{Probe}
+use Rattle.tp_stream.specs.declared.probe.Probe.{Probe}
 use Rattle.tp_farm.specs.Farms.{AnswersLine, FarmState}
 
 module _ {S : Type 0} (tells : S → Event → List ℕ → S → Type 0) (probes : S → Event → Probe → Type 0) where

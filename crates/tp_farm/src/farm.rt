@@ -3,15 +3,15 @@
 ghost use Rattle.std.specs.Prelude.{◌≡◌, ◌+◌, ◌<◌, ◌≤◌, ◌^◌, ◌++◌, ℕ, List, [], All, length, vec_len, OnOk};
 ghost use Rattle.tp_farm.specs.Farms.{AnswersLine};
 ghost use Rattle.tp_farm.specs.Inside.{state_of};
-ghost use Rattle.tp_teller.specs.Tellers.{most_events};
+ghost use Rattle.tp_stream.specs.Tellers.{most_events};
 
-use crate::reading::read_address;
-use crate::sending::{find_whom, send};
+use crate::dispatch::{find_whom, send};
+use crate::farm_lines::read_address;
 use indexmap::IndexMap;
 use std::alloc::Global;
 use std::marker::Model;
 use tp_base::{Memory, Name};
-use tp_teller::Teller;
+use tp_stream::Teller;
 
 /// Machines side by side, each with a teller of its own. A line is sent to those that it is for, and what they tell is written
 /// with the number of the machine before each line. The first has number 1.

@@ -2,7 +2,7 @@
 
 ghost use Rattle.tp_farm.specs.Farms.{FarmsPart};
 
-use tp_teller::Teller;
+use tp_stream::Teller;
 
 /// Whatever lines a farm answers, each of its machines answers the events that it was sent, one after another, and the lines with
 /// its number before them are what it told, where the tellers tell whole lines.

@@ -2,17 +2,17 @@
 #![tactic(auto)]
 
 mod address;
-mod answering;
-mod choosing;
+mod dispatch;
 mod farm;
+mod farm_lines;
 mod laws;
-mod listing;
-mod reading;
-mod sending;
+mod machine_choice;
+mod machine_list;
+mod scripted_farm;
 mod whom;
 
-pub use answering::answer_farm;
 pub use farm::Farm;
 pub use laws::farms_part;
-pub use listing::{ListFault, read_list};
+pub use machine_list::{ListFault, read_list};
+pub use scripted_farm::answer_farm;
 pub use whom::Whom;

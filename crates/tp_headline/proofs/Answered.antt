@@ -6,12 +6,12 @@ use Rattle.tp_jobs.specs.declared.parts.WaitingCopy.{WaitingCopy}
 use Rattle.tp_schedule.specs.Plans.{IsTimedPlan, end_of_plan, is_same_copy}
 use Rattle.tp_schedule.specs.declared.parts.Plan.{Plan}
 use Rattle.tp_schedule.specs.declared.parts.SheetId.{SheetId}
-use Rattle.tp_turn.specs.Asking.{ask_waiting}
-use Rattle.tp_turn.specs.Laws.{IsPlannable}
-use Rattle.tp_turn.specs.States.{SessionState}
-use Rattle.tp_turn.proofs.AnsweredPlans.{other-to, plan-cases, unmoved-sheet, unmoved-tray_plan}
-use Rattle.tp_turn.proofs.AskedFacts.{IsAskedFirst, none-before, mine-there}
-use Rattle.tp_outages.proofs.KeptPoints.{kept-asked, above-lead, all-out, ends-back, ends-on}
+use Rattle.tp_event_rules.specs.AskPhase.{ask_waiting}
+use Rattle.tp_event_rules.specs.Laws.{IsPlannable}
+use Rattle.tp_event_rules.specs.States.{SessionState}
+use Rattle.tp_event_rules.proofs.AnsweredPlans.{other-to, plan-cases, unmoved-sheet, unmoved-tray_plan}
+use Rattle.tp_event_rules.proofs.AskedFacts.{IsAskedFirst, none-before, mine-there}
+use Rattle.tp_outage_laws.proofs.KeptPoints.{kept-asked, above-lead, all-out, ends-back, ends-on}
 use Rattle.tp_headline.proofs.Delivered.{IsDelivered}
 
 and-false : (b : Bool) → (b && false) ≡ false

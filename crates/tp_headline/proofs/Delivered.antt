@@ -16,14 +16,14 @@ use Rattle.tp_schedule.specs.Legality.{EndsBefore}
 use Rattle.tp_schedule.specs.Plans.{IsEarlier, end_of_plan, is_before, is_delivered_to}
 use Rattle.tp_schedule.specs.declared.parts.Plan.{Plan}
 use Rattle.tp_schedule.specs.declared.parts.SheetId.{SheetId}
-use Rattle.tp_turn.specs.Keeping.{is_known, is_of_its_job, is_same_sheet, tray_plans}
-use Rattle.tp_turn.specs.Labels.{label, location_name}
-use Rattle.tp_turn.specs.Moments.{is_tray_plan}
-use Rattle.tp_turn.specs.Receiving.{Arrival, is_earlier, sheet_ref}
-use Rattle.tp_turn.specs.States.{SessionState}
-use Rattle.tp_turn.proofs.AskedFacts.{Apart, apart-sym}
-use Rattle.tp_outages.specs.Through.{KeepsOrder}
-use Rattle.tp_outages.proofs.PlanFacts.{is-delivered, known-of, tray-known}
+use Rattle.tp_event_rules.specs.StateInvariants.{is_known, is_of_its_job, is_same_sheet, tray_plans}
+use Rattle.tp_event_rules.specs.Labels.{label, location_name}
+use Rattle.tp_event_rules.specs.Moments.{is_tray_plan}
+use Rattle.tp_event_rules.specs.Deliveries.{Arrival, is_earlier, sheet_ref}
+use Rattle.tp_event_rules.specs.States.{SessionState}
+use Rattle.tp_event_rules.proofs.AskedFacts.{Apart, apart-sym}
+use Rattle.tp_outage_laws.specs.Through.{KeepsOrder}
+use Rattle.tp_outage_laws.proofs.PlanFacts.{is-delivered, known-of, tray-known}
 use Rattle.tp_headline.proofs.Numbers.{AreFirst, AreNamedApart, earlier-is}
 use Rattle.tp_headline.proofs.Locations.{location-named}
 

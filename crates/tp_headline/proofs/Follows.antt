@@ -7,7 +7,7 @@ use Rattle.std.proofs.lemmas.List.Elements.{All-contains, Contains-append_left, 
 use Rattle.std.proofs.lemmas.Option.{slice_get-get_or, slice_get_within}
 use Rattle.tp_machine.specs.declared.machine.Machine.{Machine}
 use Rattle.tp_jobs.specs.Backlogs.{tray_of, tray_in}
-use Rattle.tp_jobs.specs.Refusing.{is_tray_name}
+use Rattle.tp_jobs.specs.JobRefusals.{is_tray_name}
 use Rattle.tp_jobs.specs.declared.parts.Job.{Job}
 use Rattle.tp_jobs.specs.declared.parts.WaitingCopy.{WaitingCopy}
 use Rattle.tp_schedule.proofs.Membership.{Contains-map, Contains-map_from, Contains-filter, Contains-filter_from}
@@ -17,15 +17,15 @@ use Rattle.tp_schedule.specs.declared.parts.SheetId.{SheetId}
 use Rattle.tp_schedule.specs.declared.records.Record.{Record}
 use Rattle.tp_schedule.specs.declared.records.Record.TheVariants.{Broken, Done}
 use Rattle.tp_schedule.specs.declared.records.SheetName.{SheetName}
-use Rattle.tp_turn.specs.Clock.{clock_records}
-use Rattle.tp_turn.specs.Keeping.{StandsBehind, is_copy_of, open_copies, tray_plans, total_of}
-use Rattle.tp_turn.specs.Labels.{job_name, job_name_in, label, location_name}
-use Rattle.tp_turn.specs.Lines.{is_job_broken, is_same_line}
-use Rattle.tp_turn.specs.Moments.{is_tray_plan}
-use Rattle.tp_turn.specs.Receiving.{Arrival, IsAskedFor, IsReceivedOrBroken, SheetRef, arrival_of, is_earlier, received, received_by, sheet_ref}
-use Rattle.tp_turn.specs.States.{SessionState}
-use Rattle.tp_turn.proofs.ListFacts.{Any-contains}
-use Rattle.tp_outages.specs.Through.{KeepsOrder}
+use Rattle.tp_event_rules.specs.Clock.{clock_records}
+use Rattle.tp_event_rules.specs.StateInvariants.{StandsBehind, is_copy_of, open_copies, tray_plans, total_of}
+use Rattle.tp_event_rules.specs.Labels.{job_name, job_name_in, label, location_name}
+use Rattle.tp_event_rules.specs.Lines.{is_job_broken, is_same_line}
+use Rattle.tp_event_rules.specs.Moments.{is_tray_plan}
+use Rattle.tp_event_rules.specs.Deliveries.{Arrival, IsAskedFor, IsReceivedOrBroken, SheetRef, arrival_of, is_earlier, received, received_by, sheet_ref}
+use Rattle.tp_event_rules.specs.States.{SessionState}
+use Rattle.tp_event_rules.proofs.ListFacts.{Any-contains}
+use Rattle.tp_outage_laws.specs.Through.{KeepsOrder}
 use Rattle.tp_headline.proofs.Delivered.{IsDelivered, IsFor, by-order, ends-first, known-plan, location-of-both}
 use Rattle.tp_headline.proofs.Numbers.{AreFirst, AreNamedApart, arrival-at, arrived, job-at, number-of}
 use Rattle.tp_headline.proofs.Sorted.{append-split}

@@ -13,8 +13,8 @@ use Rattle.tp_jobs.specs.Backlogs.{tray_of}
 use Rattle.tp_jobs.specs.declared.parts.Job.{Job}
 use Rattle.tp_jobs.specs.declared.parts.WaitingCopy.{WaitingCopy}
 use Rattle.tp_schedule.specs.Answers.{kept_of}
-use Rattle.tp_schedule.specs.Planning.{Deed, IsAnswer}
-use Rattle.tp_schedule.specs.Planning.Deed.{replied, settled}
+use Rattle.tp_schedule.specs.PlannerAnswers.{Deed, IsAnswer}
+use Rattle.tp_schedule.specs.PlannerAnswers.Deed.{replied, settled}
 use Rattle.tp_schedule.specs.Plans.{plan_of, without}
 use Rattle.tp_schedule.specs.declared.parts.Ask.{Ask}
 use Rattle.tp_schedule.specs.declared.parts.Plan.{Plan}
@@ -23,21 +23,21 @@ use Rattle.tp_schedule.specs.declared.parts.Reply.TheVariants.{Planned, Never, S
 use Rattle.tp_schedule.specs.declared.records.Cause.{Cause}
 use Rattle.tp_schedule.specs.declared.records.Record.{Record}
 use Rattle.tp_schedule.specs.declared.records.Record.TheVariants.{Refused, FullUp}
-use Rattle.tp_turn.specs.Answering.{Answer, moves, told_of_planned, told_of_reply}
-use Rattle.tp_turn.specs.Asking.{AsksInTurn, ask_waiting, is_full, is_passed_over, passed_after, state_after_reply}
-use Rattle.tp_turn.specs.Clock.{clock_records, clock_tells, record_of}
-use Rattle.tp_turn.specs.declared.telling.Tell.{Tell}
-use Rattle.tp_turn.specs.declared.telling.Tell.TheVariants.{Done as TellsDone, Release as TellsRelease}
-use Rattle.tp_turn.specs.Labels.{label}
-use Rattle.tp_turn.specs.Logs.{Entry, Run, TreeClaims, right_answers}
-use Rattle.tp_turn.specs.Loops.{after_answers, after_asked, after_one, after_reply}
-use Rattle.tp_turn.specs.Outages.{outage}
-use Rattle.tp_turn.specs.Planners.{AnswersInTurn, GoesOut, IsRight, PlannerSteps, RunsLoop}
-use Rattle.tp_turn.specs.Receiving.{records_of}
-use Rattle.tp_turn.specs.Refusals.{refusal}
-use Rattle.tp_turn.specs.States.{SessionState}
-use Rattle.tp_turn.specs.Turns.{Accepts, Begins, Turn}
-use Rattle.tp_turn.proofs.AskSteps.{AsksFirst, TellsFull}
+use Rattle.tp_event_rules.specs.AnswerRecords.{Answer, moves, told_of_planned, told_of_reply}
+use Rattle.tp_event_rules.specs.AskPhase.{AsksInTurn, ask_waiting, is_full, is_passed_over, passed_after, state_after_reply}
+use Rattle.tp_event_rules.specs.Clock.{clock_records, clock_tells, record_of}
+use Rattle.tp_event_rules.specs.declared.tell.Tell.{Tell}
+use Rattle.tp_event_rules.specs.declared.tell.Tell.TheVariants.{Done as TellsDone, Release as TellsRelease}
+use Rattle.tp_event_rules.specs.Labels.{label}
+use Rattle.tp_event_rules.specs.Logs.{Entry, Run, TreeClaims, right_answers}
+use Rattle.tp_event_rules.specs.Loops.{after_answers, after_asked, after_one, after_reply}
+use Rattle.tp_event_rules.specs.Outages.{outage}
+use Rattle.tp_event_rules.specs.Planners.{AnswersInTurn, GoesOut, IsRight, PlannerSteps, RunsLoop}
+use Rattle.tp_event_rules.specs.Deliveries.{records_of}
+use Rattle.tp_event_rules.specs.Refusals.{refusal}
+use Rattle.tp_event_rules.specs.States.{SessionState}
+use Rattle.tp_event_rules.specs.Turns.{Accepts, Begins, Turn}
+use Rattle.tp_event_rules.proofs.AskSteps.{AsksFirst, TellsFull}
 use Rattle.tp_headline.specs.Given.{Answers, Given, given_answers, is_answer, told_by, told_of_given}
 use Rattle.tp_headline.proofs.Plain.{none-answered, plain-after, plain-moves, plain-outage}
 

@@ -10,48 +10,48 @@ use Rattle.tp_machine.specs.declared.machine.Machine.{Machine}
 use Rattle.tp_script.specs.Form.{GroupForm}
 use Rattle.tp_script.specs.declared.event.Event.{Event}
 use Rattle.tp_script.specs.declared.event.Event.TheVariants.{Bad, Job as NewJob, Clock, Jam, Off, On, Refill}
-use Rattle.tp_jobs.specs.Refusing.{is_tray_name, sheet_count}
-use Rattle.tp_jobs.specs.Waiting.{new_job}
+use Rattle.tp_jobs.specs.JobRefusals.{is_tray_name, sheet_count}
+use Rattle.tp_jobs.specs.WaitingCopies.{new_job}
 use Rattle.tp_jobs.specs.declared.parts.WaitingCopy.{WaitingCopy}
 use Rattle.tp_schedule.proofs.Membership.{All-from_contains}
 use Rattle.tp_schedule.proofs.Pairs.{AllPairs-nil}
-use Rattle.tp_schedule.specs.Planning.{Deed}
+use Rattle.tp_schedule.specs.PlannerAnswers.{Deed}
 use Rattle.tp_schedule.specs.declared.parts.Ask.{Ask}
 use Rattle.tp_schedule.specs.declared.parts.Plan.{Plan}
 use Rattle.tp_schedule.specs.declared.records.Cause.{Cause}
 use Rattle.tp_schedule.specs.declared.records.Record.{Record}
 use Rattle.tp_schedule.specs.declared.records.Record.TheVariants.{Done, Refused}
-use Rattle.tp_turn.specs.Laws.{totals_after, totals_by}
-use Rattle.tp_turn.specs.Clock.{clock_move, clock_records}
-use Rattle.tp_turn.specs.Logs.{Entry, TreeClaims, right_answers, Run, IsLawful}
-use Rattle.tp_turn.specs.Planners.{PlannerSteps, IsRight, GoesOut}
-use Rattle.tp_turn.specs.Receiving.{Arrival, KeepsHeadline, arrivals, arrival_by, is_earlier, is_refusal, records_of, sheet_ref}
-use Rattle.tp_turn.specs.Refusals.{refusal}
-use Rattle.tp_turn.specs.States.{SessionState, empty_state}
-use Rattle.tp_turn.specs.Turns.{Begins, Accepts, Turn, with_job}
-use Rattle.tp_turn.proofs.AcceptedTurns.{told-refused}
-use Rattle.tp_turn.proofs.AskedTurns.{rest-all}
-use Rattle.tp_turn.proofs.ComesBack.{lines-on, sheets-on}
-use Rattle.tp_turn.proofs.EmptyState.{kept-empty}
-use Rattle.tp_turn.proofs.FirstCopies.{accepted-job}
-use Rattle.tp_turn.proofs.LawfulLogs.{lawful-legal, plannable-empty}
-use Rattle.tp_turn.proofs.MovedClock.{lines-clock, sheets-clock}
-use Rattle.tp_turn.proofs.NewJob.{jobs-job, lines-job}
-use Rattle.tp_turn.proofs.NewSheets.{sheets-job}
-use Rattle.tp_turn.proofs.PlanOnFacts.{CanPlanOn-clock}
-use Rattle.tp_turn.proofs.PlannableTurns.{accepted-clock}
-use Rattle.tp_turn.proofs.ReadyTurns.{broken-clock, broken-job, purges-clock}
-use Rattle.tp_turn.specs.Ready.{EntersWhereBroken}
-use Rattle.tp_turn.specs.Seen.{HasStarted}
-use Rattle.tp_turn.specs.Lines.{is_job_broken}
-use Rattle.tp_outages.specs.Through.{KeepsOrder}
+use Rattle.tp_event_rules.specs.Laws.{totals_after, totals_by}
+use Rattle.tp_event_rules.specs.Clock.{clock_move, clock_records}
+use Rattle.tp_event_rules.specs.Logs.{Entry, TreeClaims, right_answers, Run, IsLawful}
+use Rattle.tp_event_rules.specs.Planners.{PlannerSteps, IsRight, GoesOut}
+use Rattle.tp_event_rules.specs.Deliveries.{Arrival, KeepsHeadline, arrivals, arrival_by, is_earlier, is_refusal, records_of, sheet_ref}
+use Rattle.tp_event_rules.specs.Refusals.{refusal}
+use Rattle.tp_event_rules.specs.States.{SessionState, empty_state}
+use Rattle.tp_event_rules.specs.Turns.{Begins, Accepts, Turn, with_job}
+use Rattle.tp_event_rules.proofs.AcceptedTurns.{told-refused}
+use Rattle.tp_event_rules.proofs.AskedTurns.{rest-all}
+use Rattle.tp_event_rules.proofs.ComesBack.{lines-on, sheets-on}
+use Rattle.tp_event_rules.proofs.EmptyState.{kept-empty}
+use Rattle.tp_event_rules.proofs.FirstCopies.{accepted-job}
+use Rattle.tp_event_rules.proofs.LawfulLogs.{lawful-legal, plannable-empty}
+use Rattle.tp_event_rules.proofs.MovedClock.{lines-clock, sheets-clock}
+use Rattle.tp_event_rules.proofs.NewJob.{jobs-job, lines-job}
+use Rattle.tp_event_rules.proofs.NewSheets.{sheets-job}
+use Rattle.tp_event_rules.proofs.PlanOnFacts.{CanPlanOn-clock}
+use Rattle.tp_event_rules.proofs.PlannableTurns.{accepted-clock}
+use Rattle.tp_event_rules.proofs.ReadyTurns.{broken-clock, broken-job, purges-clock}
+use Rattle.tp_event_rules.specs.Ready.{EntersWhereBroken}
+use Rattle.tp_event_rules.specs.Seen.{HasStarted}
+use Rattle.tp_event_rules.specs.Lines.{is_job_broken}
+use Rattle.tp_outage_laws.specs.Through.{KeepsOrder}
 use Rattle.tp_headline.proofs.Numbers.{names-apart, told-more, told_jobs, AreNamedApart}
 use Rattle.tp_headline.proofs.Follows.{Follows}
 use Rattle.tp_headline.proofs.OrderTurns.{Leads, order-asks}
 use Rattle.tp_headline.proofs.Locations.{tray-location}
 use Rattle.tp_headline.proofs.Steps.{IsNoDelivery, IsQuiet, follows-clock, follows-job, follows-quiet, same-arrived}
 use Rattle.tp_stock.specs.Stock.{more_at}
-use Rattle.tp_turn.proofs.Refilled.{lines-refilled, sheets-refilled}
+use Rattle.tp_event_rules.proofs.Refilled.{lines-refilled, sheets-refilled}
 
 -- what is to be known of a module that goes out
 abbrev pub OutagesLead : {P : Type 0} → PlannerSteps P → Machine → Type 0

@@ -4,7 +4,7 @@ use Rattle.std.proofs.lemmas.List.Concat.{flat_map-cons}
 use Rattle.std.proofs.lemmas.List.Elements.{All-head, All-tail, filter-append}
 use Rattle.tp_machine.specs.declared.machine.Machine.{Machine}
 use Rattle.tp_schedule.specs.Answers.{kept_of}
-use Rattle.tp_schedule.specs.Planning.{IsAnswer}
+use Rattle.tp_schedule.specs.PlannerAnswers.{IsAnswer}
 use Rattle.tp_schedule.specs.Plans.{plan_of}
 use Rattle.tp_schedule.specs.declared.parts.Ask.{Ask}
 use Rattle.tp_schedule.specs.declared.parts.Plan.{Plan}
@@ -12,10 +12,10 @@ use Rattle.tp_schedule.specs.declared.parts.Reply.{Reply}
 use Rattle.tp_schedule.specs.declared.parts.Reply.TheVariants.{Planned, Never, Spent}
 use Rattle.tp_schedule.specs.declared.records.Record.{Record}
 use Rattle.tp_schedule.specs.declared.records.Record.TheVariants.{Plan as TellsPlan, Never as TellsNever, Budget}
-use Rattle.tp_turn.specs.Answering.{told_of_planned, told_of_plan}
-use Rattle.tp_turn.specs.Logs.{Entry, TreeClaims}
-use Rattle.tp_turn.specs.Receiving.{records_of}
-use Rattle.tp_turn.specs.States.{SessionState, empty_state}
+use Rattle.tp_event_rules.specs.AnswerRecords.{told_of_planned, told_of_plan}
+use Rattle.tp_event_rules.specs.Logs.{Entry, TreeClaims}
+use Rattle.tp_event_rules.specs.Deliveries.{records_of}
+use Rattle.tp_event_rules.specs.States.{SessionState, empty_state}
 use Rattle.tp_headline.specs.Given.{Answers, Given, IsEarliestThere, IsNoneThere, IsSpentThere, StandsBehind, is_answer, told_by, told_of_given}
 use Rattle.tp_headline.specs.Headline.{LawfulBudgetsAreSpent, LawfulNonesAreNone, LawfulPlansAreEarliest}
 use Rattle.tp_headline.proofs.GivenAnswers.{IsRightGiven, RunGives, run-gives}

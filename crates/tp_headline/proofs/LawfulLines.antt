@@ -2,13 +2,13 @@
 use Rattle.std.proofs.Common.{ℕ, Bool, List}
 use Rattle.tp_machine.specs.declared.machine.Machine.{Machine}
 use Rattle.tp_script.specs.declared.event.Event.{Event}
-use Rattle.tp_schedule.specs.Planning.{Deed}
+use Rattle.tp_schedule.specs.PlannerAnswers.{Deed}
 use Rattle.tp_schedule.specs.declared.parts.Ask.{Ask}
 use Rattle.tp_schedule.specs.declared.parts.Plan.{Plan}
-use Rattle.tp_turn.specs.Planners.{IsRight, PlannerSteps}
-use Rattle.tp_turn.specs.Logs.{Entry, TreeClaims, right_answers, IsLawful}
-use Rattle.tp_turn.specs.Receiving.{KeepsHeadline}
-use Rattle.tp_outages.proofs.OutagesKeep.{order-goes}
+use Rattle.tp_event_rules.specs.Planners.{IsRight, PlannerSteps}
+use Rattle.tp_event_rules.specs.Logs.{Entry, TreeClaims, right_answers, IsLawful}
+use Rattle.tp_event_rules.specs.Deliveries.{KeepsHeadline}
+use Rattle.tp_outage_laws.proofs.OutagesKeep.{order-goes}
 use Rattle.tp_headline.specs.Headline.{TurnsKeepOrder}
 use Rattle.tp_headline.proofs.Headline.{turn-gives, lawful-lines}
 use Rattle.tp_headline.proofs.OutageTurns.{outages-lead}

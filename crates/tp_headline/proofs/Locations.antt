@@ -13,7 +13,7 @@ use Rattle.tp_machine.proofs.MachineFacts.{is_machine}
 use Rattle.tp_machine.specs.Machines.{IsLocation}
 use Rattle.tp_machine.specs.Rules.{is_among, name_in}
 use Rattle.tp_machine.specs.Steps.{can_step, after, step_of}
-use Rattle.tp_machine.specs.Using.{action_at}
+use Rattle.tp_machine.specs.ModuleUse.{action_at}
 use Rattle.tp_machine.specs.declared.parts.ActId.{ActId}
 use Rattle.tp_machine.specs.declared.parts.Action.{Action}
 use Rattle.tp_machine.specs.declared.parts.LocId.{LocId}
@@ -21,8 +21,8 @@ use Rattle.tp_machine.specs.declared.parts.Sheet.{Sheet}
 use Rattle.tp_machine.specs.declared.parts.State.{State}
 use Rattle.tp_machine.specs.declared.machine.Machine.{Machine}
 use Rattle.tp_jobs.specs.Backlogs.{tray_of}
-use Rattle.tp_jobs.specs.Refusing.{is_tray_name, tray_named, tray_at}
-use Rattle.tp_jobs.specs.Waiting.{given_tray}
+use Rattle.tp_jobs.specs.JobRefusals.{is_tray_name, tray_named, tray_at}
+use Rattle.tp_jobs.specs.WaitingCopies.{given_tray}
 use Rattle.tp_jobs.specs.declared.parts.Job.{Job}
 use Rattle.tp_schedule.specs.Plans.{IsTimedPlan, EndsIn, is_front}
 use Rattle.tp_schedule.specs.Routes.{walk, IsGoalState}
@@ -32,9 +32,9 @@ use Rattle.tp_schedule.specs.declared.parts.Kind.{Kind}
 use Rattle.tp_schedule.specs.declared.parts.Kind.TheVariants.{Whole, Front}
 use Rattle.tp_schedule.specs.declared.parts.Plan.{Plan}
 use Rattle.tp_schedule.proofs.Walks.{walk_first}
-use Rattle.tp_turn.specs.Keeping.{is_of_its_job, is_own_goal, is_known}
-use Rattle.tp_turn.specs.Labels.{location_name, end_location, last_of, to_in, job_name}
-use Rattle.tp_turn.specs.Moments.{is_tray_plan, is_to_tray}
+use Rattle.tp_event_rules.specs.StateInvariants.{is_of_its_job, is_own_goal, is_known}
+use Rattle.tp_event_rules.specs.Labels.{location_name, end_location, last_of, to_in, job_name}
+use Rattle.tp_event_rules.specs.Moments.{is_tray_plan, is_to_tray}
 
 -- two locations of one name are one location
 pub location-named : (machine : Machine) (a b : LocId) → IsLocation machine a → IsLocation machine b → location_name machine a ≡ location_name machine b → a ≡ b

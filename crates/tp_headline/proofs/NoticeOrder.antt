@@ -12,13 +12,13 @@ use Rattle.tp_schedule.specs.declared.parts.Plan.{Plan}
 use Rattle.tp_schedule.specs.declared.parts.SheetId.{SheetId}
 use Rattle.tp_jobs.specs.declared.parts.WaitingCopy.{WaitingCopy}
 use Rattle.tp_schedule.specs.declared.records.Record.TheVariants.{Drop}
-use Rattle.tp_turn.specs.Fates.{told_of}
-use Rattle.tp_turn.specs.FallBacks.{Notice, put_notice, by_copy, fate_in_break, notices_of_waiting, notices_of_plans}
-use Rattle.tp_turn.specs.Keeping.{is_planned_among}
-use Rattle.tp_turn.specs.Labels.{label}
-use Rattle.tp_turn.specs.Lines.{is_of_job}
-use Rattle.tp_turn.specs.States.{SessionState}
-use Rattle.tp_turn.proofs.ListFacts.{AllPairs-map_list}
+use Rattle.tp_event_rules.specs.Fates.{told_of}
+use Rattle.tp_event_rules.specs.FallBacks.{Notice, put_notice, by_copy, fate_in_break, notices_of_waiting, notices_of_plans}
+use Rattle.tp_event_rules.specs.StateInvariants.{is_planned_among}
+use Rattle.tp_event_rules.specs.Labels.{label}
+use Rattle.tp_event_rules.specs.Lines.{is_of_job}
+use Rattle.tp_event_rules.specs.States.{SessionState}
+use Rattle.tp_event_rules.proofs.ListFacts.{AllPairs-map_list}
 use Rattle.tp_headline.specs.InOrder.{IsNoticedBefore, BreaksTellInOrder}
 
 -- the same items, by copy

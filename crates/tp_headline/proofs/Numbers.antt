@@ -12,11 +12,11 @@ use Rattle.tp_machine.specs.declared.machine.Machine.{Machine}
 use Rattle.tp_jobs.specs.declared.parts.Job.{Job}
 use Rattle.tp_schedule.proofs.Pairs.{AllPairs-map_from}
 use Rattle.tp_schedule.specs.declared.parts.SheetId.{SheetId}
-use Rattle.tp_turn.specs.Keeping.{total_of, is_known}
-use Rattle.tp_turn.proofs.ListFacts.{AllPairs-map_list}
-use Rattle.tp_turn.specs.Labels.{job_name, job_name_in, label, location_name}
-use Rattle.tp_turn.specs.Receiving.{Arrival, arrival_of, is_earlier, sheet_ref}
-use Rattle.tp_turn.proofs.AskedFacts.{bytes_eq-same}
+use Rattle.tp_event_rules.specs.StateInvariants.{total_of, is_known}
+use Rattle.tp_event_rules.proofs.ListFacts.{AllPairs-map_list}
+use Rattle.tp_event_rules.specs.Labels.{job_name, job_name_in, label, location_name}
+use Rattle.tp_event_rules.specs.Deliveries.{Arrival, arrival_of, is_earlier, sheet_ref}
+use Rattle.tp_event_rules.proofs.AskedFacts.{bytes_eq-same}
 
 -- a job as a log tells it
 abbrev pub arrived : Machine → Job → ℕ → Arrival

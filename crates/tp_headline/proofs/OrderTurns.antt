@@ -6,26 +6,26 @@ use Rattle.tp_machine.specs.declared.machine.Machine.{Machine}
 use Rattle.tp_jobs.specs.Backlogs.{tray_of}
 use Rattle.tp_jobs.specs.declared.parts.WaitingCopy.{WaitingCopy}
 use Rattle.tp_schedule.specs.Plans.{is_same_copy}
-use Rattle.tp_schedule.specs.Planning.{Deed, IsAnswer}
-use Rattle.tp_schedule.specs.Planning.Deed.{replied}
+use Rattle.tp_schedule.specs.PlannerAnswers.{Deed, IsAnswer}
+use Rattle.tp_schedule.specs.PlannerAnswers.Deed.{replied}
 use Rattle.tp_schedule.specs.declared.parts.Ask.{Ask}
 use Rattle.tp_schedule.specs.declared.parts.Plan.{Plan}
 use Rattle.tp_schedule.specs.declared.parts.Reply.{Reply}
 use Rattle.tp_schedule.specs.declared.parts.Reply.TheVariants.{Planned, Never, Spent}
 use Rattle.tp_schedule.specs.declared.records.Record.{Record}
 use Rattle.tp_schedule.specs.declared.records.Record.TheVariants.{FullUp}
-use Rattle.tp_turn.specs.Answering.{told_of_reply}
-use Rattle.tp_turn.specs.Asking.{AsksInTurn, ask_waiting, is_full, is_passed_over, passed_after, state_after_reply}
-use Rattle.tp_turn.specs.Labels.{label}
-use Rattle.tp_turn.specs.Planners.{PlannerSteps, IsRight}
-use Rattle.tp_turn.specs.States.{SessionState}
-use Rattle.tp_turn.proofs.AskSteps.{AsksFirst, TellsFull}
-use Rattle.tp_turn.proofs.AskedFacts.{IsAskedFirst}
-use Rattle.tp_turn.proofs.AskedLines.{planned_waiting, lines-asked}
-use Rattle.tp_turn.proofs.AskedSheets.{sheets-asked}
-use Rattle.tp_turn.proofs.AskedTurns.{IsRest, rest-tail, rest-refused, rest-planned, first-of_line}
-use Rattle.tp_turn.proofs.ReadyAsked.{broken-asked, purges-asked}
-use Rattle.tp_outages.specs.Through.{KeepsOrder}
+use Rattle.tp_event_rules.specs.AnswerRecords.{told_of_reply}
+use Rattle.tp_event_rules.specs.AskPhase.{AsksInTurn, ask_waiting, is_full, is_passed_over, passed_after, state_after_reply}
+use Rattle.tp_event_rules.specs.Labels.{label}
+use Rattle.tp_event_rules.specs.Planners.{PlannerSteps, IsRight}
+use Rattle.tp_event_rules.specs.States.{SessionState}
+use Rattle.tp_event_rules.proofs.AskSteps.{AsksFirst, TellsFull}
+use Rattle.tp_event_rules.proofs.AskedFacts.{IsAskedFirst}
+use Rattle.tp_event_rules.proofs.AskedLines.{planned_waiting, lines-asked}
+use Rattle.tp_event_rules.proofs.AskedSheets.{sheets-asked}
+use Rattle.tp_event_rules.proofs.AskedTurns.{IsRest, rest-tail, rest-refused, rest-planned, first-of_line}
+use Rattle.tp_event_rules.proofs.ReadyAsked.{broken-asked, purges-asked}
+use Rattle.tp_outage_laws.specs.Through.{KeepsOrder}
 use Rattle.tp_headline.proofs.Answered.{asked-delivered, delivered-asked}
 use Rattle.tp_headline.proofs.Silent.{silent-reply}
 use Rattle.tp_headline.proofs.Steps.{AreNoDeliveries, IsNoDelivery, IsQuiet, quiet-refl, quiet-trans}

@@ -1,14 +1,14 @@
 -- An outage leads on, where it keeps the order of lines: the rest of what is to be known of it is that it is quiet.
 use Rattle.std.proofs.Common.{ℕ, List}
 use Rattle.tp_machine.specs.declared.machine.Machine.{Machine}
-use Rattle.tp_schedule.specs.Planning.{Deed}
+use Rattle.tp_schedule.specs.PlannerAnswers.{Deed}
 use Rattle.tp_schedule.specs.declared.parts.Ask.{Ask}
 use Rattle.tp_schedule.specs.declared.parts.Plan.{Plan}
-use Rattle.tp_turn.specs.Planners.{PlannerSteps, IsRight}
-use Rattle.tp_outages.specs.Laws.{OutagesKeep}
-use Rattle.tp_outages.proofs.Starts.{begins-mid}
-use Rattle.tp_outages.proofs.OutagesKeep.{through}
-use Rattle.tp_outages.specs.Through.{KeepsOrder}
+use Rattle.tp_event_rules.specs.Planners.{PlannerSteps, IsRight}
+use Rattle.tp_outage_laws.specs.Laws.{OutagesKeep}
+use Rattle.tp_outage_laws.proofs.Starts.{begins-mid}
+use Rattle.tp_outage_laws.proofs.OutagesKeep.{through}
+use Rattle.tp_outage_laws.specs.Through.{KeepsOrder}
 use Rattle.tp_headline.proofs.Headline.{OutagesLead}
 use Rattle.tp_headline.proofs.QuietLoops.{quiet-out}
 

@@ -15,19 +15,19 @@ use Rattle.tp_schedule.specs.declared.parts.Goal.{Goal}
 use Rattle.tp_schedule.specs.declared.parts.Goal.TheVariants.{Tray, Purge}
 use Rattle.tp_schedule.specs.declared.parts.Reply.{Reply}
 use Rattle.tp_schedule.specs.declared.parts.Reply.TheVariants.{Planned, Never, Spent}
-use Rattle.tp_turn.specs.States.{SessionState, Outcome, nothing_told, and_then, for_each}
-use Rattle.tp_turn.specs.Lines.{is_job_broken}
-use Rattle.tp_turn.specs.Labels.{label, module_name}
-use Rattle.tp_turn.specs.Fates.{Fate, recalls, told_of, told_by, to_purge}
-use Rattle.tp_turn.specs.FallBacks.{Notice, put_notice, by_copy, notices_of_waiting, notices_of_plans, job_break, Displaced, next_waits, later_fall_back, is_line_entering, fall_back, fall_back_unless_broken, fate_in_break}
-use Rattle.tp_turn.specs.Outages.{told_in_outage, fate_of_running, fate_unless_lost, displaced, going_out, outage}
-use Rattle.tp_turn.specs.Moments.{recalled, due_until}
-use Rattle.tp_turn.specs.Clock.{record_of, release_of}
-use Rattle.tp_turn.specs.Answering.{label_of_plan, told_of_move, moves}
-use Rattle.tp_turn.specs.Loops.{stuck_module, told_releases, not_planned, after_reply}
+use Rattle.tp_event_rules.specs.States.{SessionState, Outcome, nothing_told, and_then, for_each}
+use Rattle.tp_event_rules.specs.Lines.{is_job_broken}
+use Rattle.tp_event_rules.specs.Labels.{label, module_name}
+use Rattle.tp_event_rules.specs.Fates.{Fate, recalls, told_of, told_by, to_purge}
+use Rattle.tp_event_rules.specs.FallBacks.{Notice, put_notice, by_copy, notices_of_waiting, notices_of_plans, job_break, Displaced, next_waits, later_fall_back, is_line_entering, fall_back, fall_back_unless_broken, fate_in_break}
+use Rattle.tp_event_rules.specs.Outages.{told_in_outage, fate_of_running, fate_unless_lost, displaced, going_out, outage}
+use Rattle.tp_event_rules.specs.Moments.{recalled, due_until}
+use Rattle.tp_event_rules.specs.Clock.{record_of, release_of}
+use Rattle.tp_event_rules.specs.AnswerRecords.{label_of_plan, told_of_move, moves}
+use Rattle.tp_event_rules.specs.Loops.{stuck_module, told_releases, not_planned, after_reply}
 use Rattle.tp_headline.proofs.Steps.{AreNoDeliveries, IsNoDelivery, is_done}
 use Rattle.tp_headline.specs.Given.{is_answer}
-use Rattle.tp_turn.specs.Fates as fates
+use Rattle.tp_event_rules.specs.Fates as fates
 
 -- a record that tells neither a delivery nor an answer
 abbrev pub is_plain : Record → Bool

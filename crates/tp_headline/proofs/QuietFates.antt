@@ -5,13 +5,13 @@ use Rattle.tp_schedule.proofs.Membership.{Contains-here, flat_map-from, flat_map
 use Rattle.tp_schedule.specs.declared.parts.Plan.{Plan}
 use Rattle.tp_schedule.specs.declared.parts.SheetId.{SheetId}
 use Rattle.tp_schedule.specs.declared.records.Record.{Record}
-use Rattle.tp_turn.specs.Fates.{Fate, befall, left_by, left_of, to_purge}
-use Rattle.tp_turn.specs.Moments.{front_of, is_tray_plan}
-use Rattle.tp_turn.specs.States.{SessionState}
-use Rattle.tp_outages.proofs.Midway.{IsMeet, IsMid, one-same}
+use Rattle.tp_event_rules.specs.Fates.{Fate, befall, left_by, left_of, to_purge}
+use Rattle.tp_event_rules.specs.Moments.{front_of, is_tray_plan}
+use Rattle.tp_event_rules.specs.States.{SessionState}
+use Rattle.tp_outage_laws.proofs.Midway.{IsMeet, IsMid, one-same}
 use Rattle.tp_headline.proofs.Delivered.{IsDelivered}
 use Rattle.tp_headline.proofs.Steps.{AreNoDeliveries, IsQuiet}
-use Rattle.tp_turn.specs.Fates as fates
+use Rattle.tp_event_rules.specs.Fates as fates
 
 no-tray : (r q : Plan) → is_tray_plan r ≡ false → Contains (r ∷ []) q → is_tray_plan q ≡ true → ⊥
 no-tray r q none in' tray = let e = one-same r q r in' in let same : is_tray_plan r ≡ is_tray_plan q = ap is_tray_plan e in cc

@@ -3,8 +3,8 @@ use Rattle.std.proofs.Common.{◌≡◌, ℕ, ◌+◌, ◌⊎◌, inl, inr, Bool
 use Rattle.tp_machine.specs.declared.machine.Machine.{Machine}
 use Rattle.tp_schedule.proofs.Membership.{Contains-cons_cases, Contains-here, Contains-later, Contains-map, Contains-map_from}
 use Rattle.tp_schedule.specs.Answers.{IsAlternative, IsRetimed, unmoved}
-use Rattle.tp_schedule.specs.Planning.{Deed, IsAnswer, none_exempt}
-use Rattle.tp_schedule.specs.Planning.Deed.{replied, settled}
+use Rattle.tp_schedule.specs.PlannerAnswers.{Deed, IsAnswer, none_exempt}
+use Rattle.tp_schedule.specs.PlannerAnswers.Deed.{replied, settled}
 use Rattle.tp_schedule.specs.Plans.{change_plan, end_of_plan, is_front, is_same_copy, plan_of}
 use Rattle.tp_schedule.specs.declared.parts.Ask.{Ask}
 use Rattle.tp_schedule.specs.declared.parts.Goal.{Goal}
@@ -15,23 +15,23 @@ use Rattle.tp_schedule.specs.declared.parts.Reply.TheVariants.{Planned, Never, S
 use Rattle.tp_schedule.specs.declared.parts.SheetId.{SheetId}
 use Rattle.tp_schedule.specs.declared.records.Record.{Record}
 use Rattle.tp_schedule.specs.declared.records.Record.TheVariants.{Purge as PurgeTold, Stuck}
-use Rattle.tp_turn.specs.Answering.{Answer, moves, told_of_reply}
-use Rattle.tp_turn.specs.Fates.{to_purge}
-use Rattle.tp_turn.specs.Laws.{IsPlannable}
-use Rattle.tp_turn.specs.Loops.{after_answers, after_asked, after_one, after_reply, next_ask, not_planned, stuck_module}
-use Rattle.tp_turn.specs.Moments.{is_tray_plan, release_until}
-use Rattle.tp_turn.specs.Outages.{outage}
-use Rattle.tp_turn.specs.Planners.{AnswersInTurn, GoesOut, IsRight, PlannerSteps}
-use Rattle.tp_turn.specs.States.{Outcome, SessionState, told_before}
-use Rattle.tp_turn.proofs.AnsweredPlans.{IsUnmoved, mine-is, other-to, unmoved-sheet, unmoved-tray_plan}
-use Rattle.tp_turn.proofs.SameMoment.{now-answers}
-use Rattle.tp_turn.specs.Labels.{label, module_name}
-use Rattle.tp_turn.proofs.PlanOnFacts.{Contains-change_plan}
-use Rattle.tp_turn.proofs.PlannableTurns.{plannable-answers}
-use Rattle.tp_outages.proofs.LooseAsks.{IsAskOf, asked-of, front-is, purge_state, purge-mid, kept, new-ends, cases, from-before, planned-flying}
-use Rattle.tp_outages.proofs.Flight.{between}
-use Rattle.tp_outages.proofs.KeptPoints.{IsKept, ends-back, ends-on, kept-plan}
-use Rattle.tp_outages.proofs.Midway.{IsMid}
+use Rattle.tp_event_rules.specs.AnswerRecords.{Answer, moves, told_of_reply}
+use Rattle.tp_event_rules.specs.Fates.{to_purge}
+use Rattle.tp_event_rules.specs.Laws.{IsPlannable}
+use Rattle.tp_event_rules.specs.Loops.{after_answers, after_asked, after_one, after_reply, next_ask, not_planned, stuck_module}
+use Rattle.tp_event_rules.specs.Moments.{is_tray_plan, release_until}
+use Rattle.tp_event_rules.specs.Outages.{outage}
+use Rattle.tp_event_rules.specs.Planners.{AnswersInTurn, GoesOut, IsRight, PlannerSteps}
+use Rattle.tp_event_rules.specs.States.{Outcome, SessionState, told_before}
+use Rattle.tp_event_rules.proofs.AnsweredPlans.{IsUnmoved, mine-is, other-to, unmoved-sheet, unmoved-tray_plan}
+use Rattle.tp_event_rules.proofs.SameMoment.{now-answers}
+use Rattle.tp_event_rules.specs.Labels.{label, module_name}
+use Rattle.tp_event_rules.proofs.PlanOnFacts.{Contains-change_plan}
+use Rattle.tp_event_rules.proofs.PlannableTurns.{plannable-answers}
+use Rattle.tp_outage_laws.proofs.LooseAsks.{IsAskOf, asked-of, front-is, purge_state, purge-mid, kept, new-ends, cases, from-before, planned-flying}
+use Rattle.tp_outage_laws.proofs.Flight.{between}
+use Rattle.tp_outage_laws.proofs.KeptPoints.{IsKept, ends-back, ends-on, kept-plan}
+use Rattle.tp_outage_laws.proofs.Midway.{IsMid}
 use Rattle.tp_headline.proofs.Delivered.{IsDelivered}
 use Rattle.tp_headline.proofs.QuietOutages.{Keeps, keeps-fall_back, keeps-nothing, keeps-outage, keeps-then}
 use Rattle.tp_headline.proofs.Silent.{silent-moves, silent-one, silent-releases, silent-reply}

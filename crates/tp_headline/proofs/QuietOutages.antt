@@ -10,20 +10,20 @@ use Rattle.tp_schedule.specs.Plans.{IsTimedPlan, end_of_plan, point}
 use Rattle.tp_schedule.specs.declared.parts.Plan.{Plan}
 use Rattle.tp_schedule.specs.declared.parts.SheetId.{SheetId}
 use Rattle.tp_schedule.specs.declared.records.Record.TheVariants.{Broken}
-use Rattle.tp_turn.specs.FallBacks.{Displaced, fall_back, fall_back_unless_broken, fate_in_break, fate_in_fall_back, is_copy, is_later, is_line_entering, is_on_its_way, job_break, later_fall_back, next_waits}
-use Rattle.tp_turn.specs.Fates.{Fate, is_cut_by, told_by}
-use Rattle.tp_turn.specs.Labels.{job_name}
-use Rattle.tp_turn.specs.Lines.{is_job_broken}
-use Rattle.tp_turn.specs.Moments.{is_entering, is_in_flight, is_running_on, is_to_run_on, is_to_tray, is_unstarted}
-use Rattle.tp_turn.specs.Outages.{displaced, fate_in_outage, fate_of_others, fate_of_running, fate_unless_lost, going_out, outage, told_in_outage, with_out}
-use Rattle.tp_turn.specs.States.{Outcome, SessionState, and_then, for_each, nothing_told}
-use Rattle.tp_outages.proofs.JobFacts.{unbroken-mark, broken-mark}
-use Rattle.tp_outages.proofs.Flight.{flight-range, last-end, running-on-range, to-run-above, up-to}
-use Rattle.tp_outages.proofs.Midway.{IsFlying, IsMeet, IsMid, befall-mid}
+use Rattle.tp_event_rules.specs.FallBacks.{Displaced, fall_back, fall_back_unless_broken, fate_in_break, fate_in_fall_back, is_copy, is_later, is_line_entering, is_on_its_way, job_break, later_fall_back, next_waits}
+use Rattle.tp_event_rules.specs.Fates.{Fate, is_cut_by, told_by}
+use Rattle.tp_event_rules.specs.Labels.{job_name}
+use Rattle.tp_event_rules.specs.Lines.{is_job_broken}
+use Rattle.tp_event_rules.specs.Moments.{is_entering, is_in_flight, is_running_on, is_to_run_on, is_to_tray, is_unstarted}
+use Rattle.tp_event_rules.specs.Outages.{displaced, fate_in_outage, fate_of_others, fate_of_running, fate_unless_lost, going_out, outage, told_in_outage, with_out}
+use Rattle.tp_event_rules.specs.States.{Outcome, SessionState, and_then, for_each, nothing_told}
+use Rattle.tp_outage_laws.proofs.JobFacts.{unbroken-mark, broken-mark}
+use Rattle.tp_outage_laws.proofs.Flight.{flight-range, last-end, running-on-range, to-run-above, up-to}
+use Rattle.tp_outage_laws.proofs.Midway.{IsFlying, IsMeet, IsMid, befall-mid}
 use Rattle.tp_headline.proofs.QuietFates.{befall-quiet}
 use Rattle.tp_headline.proofs.Silent.{silent-job_break, silent-one, silent-told_by}
 use Rattle.tp_headline.proofs.Steps.{IsNoDelivery, IsQuiet, quiet-refl, quiet-trans}
-use Rattle.tp_turn.specs.Fates as fates
+use Rattle.tp_event_rules.specs.Fates as fates
 
 -- what a part leads to in the midst
 abbrev pub Keeps : Machine → SessionState → Outcome → Type 0

@@ -10,11 +10,11 @@ use Rattle.tp_schedule.specs.Answers.{kept_of}
 use Rattle.tp_schedule.specs.declared.parts.Ask.{Ask}
 use Rattle.tp_schedule.specs.declared.parts.Reply.{Reply}
 use Rattle.tp_schedule.specs.declared.parts.Reply.TheVariants.{Planned, Never, Spent}
-use Rattle.tp_turn.specs.States.{SessionState}
-use Rattle.tp_turn.specs.Fates.{Fate, told_by}
-use Rattle.tp_turn.specs.FallBacks.{job_break}
-use Rattle.tp_turn.specs.Answering.{told_of_planned, moves, told_of_reply}
-use Rattle.tp_turn.specs.Loops.{told_releases}
+use Rattle.tp_event_rules.specs.States.{SessionState}
+use Rattle.tp_event_rules.specs.Fates.{Fate, told_by}
+use Rattle.tp_event_rules.specs.FallBacks.{job_break}
+use Rattle.tp_event_rules.specs.AnswerRecords.{told_of_planned, moves, told_of_reply}
+use Rattle.tp_event_rules.specs.Loops.{told_releases}
 use Rattle.tp_headline.proofs.Steps.{AreNoDeliveries, IsNoDelivery}
 use Rattle.tp_headline.proofs.Plain.{plain-job_break, plain-moves, plain-releases, plain-told_by, silent-plain}
 

@@ -5,7 +5,7 @@ use Rattle.std.proofs.lemmas.List.Concat.{flat_map-cons}
 use Rattle.std.proofs.lemmas.List.Elements.{All-nil, All-cons, All-head, All-tail, All-contains, All-contains_itself}
 use Rattle.tp_schedule.proofs.Membership.{All-from_contains, Contains-cons_cases, Contains-here, Contains-later, flat_map-from}
 use Rattle.tp_schedule.proofs.Pairs.{AllPairs-nil, AllPairs-cons, AllPairs-head, AllPairs-tail, AllPairs-append}
-use Rattle.tp_turn.specs.Clock.{Told, put_told, by_moment}
+use Rattle.tp_event_rules.specs.Clock.{Told, put_told, by_moment}
 
 All-put : (P : Told → Type 0) (t : Told) (us : List Told) → P t → All P us → All P (put_told t us)
 All-put P t [] one all = All-cons P t [] one all

@@ -6,7 +6,7 @@ use Rattle.std.proofs.lemmas.List.{length-append, append-nil}
 use Rattle.tp_base.proofs.SliceFacts.{slice_get_left, slice_get_last}
 use Rattle.tp_machine.specs.declared.machine.Machine.{Machine}
 use Rattle.tp_jobs.specs.Backlogs.{tray_of, tray_in}
-use Rattle.tp_jobs.specs.Refusing.{is_tray_name}
+use Rattle.tp_jobs.specs.JobRefusals.{is_tray_name}
 use Rattle.tp_jobs.specs.declared.parts.Job.{Job}
 use Rattle.tp_schedule.proofs.Membership.{All-from_contains, Contains-here, Contains-map, Contains-map_from}
 use Rattle.tp_schedule.proofs.Pairs.{AllPairs-append}
@@ -16,15 +16,15 @@ use Rattle.tp_schedule.specs.declared.parts.SheetId.{SheetId}
 use Rattle.tp_schedule.specs.declared.records.Record.{Record}
 use Rattle.tp_schedule.specs.declared.records.Record.TheVariants.{Broken, Done}
 use Rattle.tp_schedule.specs.declared.records.SheetName.{SheetName}
-use Rattle.tp_turn.specs.Clock.{clock_move, clock_records, released_until}
-use Rattle.tp_turn.specs.Labels.{job_name, job_name_in, label, location_name}
-use Rattle.tp_turn.specs.Lines.{is_job_broken, broken_in}
-use Rattle.tp_turn.specs.Keeping.{is_known}
-use Rattle.tp_turn.specs.Moments.{is_tray_plan, release_until}
-use Rattle.tp_turn.specs.Receiving.{Arrival, is_earlier, received, received_by, sheet_ref}
-use Rattle.tp_turn.specs.States.{SessionState}
-use Rattle.tp_outages.proofs.JobFacts.{unbroken, same-name, same-tray, same-length}
-use Rattle.tp_outages.specs.Through.{KeepsOrder}
+use Rattle.tp_event_rules.specs.Clock.{clock_move, clock_records, released_until}
+use Rattle.tp_event_rules.specs.Labels.{job_name, job_name_in, label, location_name}
+use Rattle.tp_event_rules.specs.Lines.{is_job_broken, broken_in}
+use Rattle.tp_event_rules.specs.StateInvariants.{is_known}
+use Rattle.tp_event_rules.specs.Moments.{is_tray_plan, release_until}
+use Rattle.tp_event_rules.specs.Deliveries.{Arrival, is_earlier, received, received_by, sheet_ref}
+use Rattle.tp_event_rules.specs.States.{SessionState}
+use Rattle.tp_outage_laws.proofs.JobFacts.{unbroken, same-name, same-tray, same-length}
+use Rattle.tp_outage_laws.specs.Through.{KeepsOrder}
 use Rattle.tp_headline.proofs.Delivered.{IsDelivered, IsFor, first-earlier, known-plan, told-earlier}
 use Rattle.tp_headline.proofs.Follows.{Follows, received-append, received-later, received-sooner, skips-clock, skips-more}
 use Rattle.tp_headline.proofs.Numbers.{AreFirst, AreNamedApart, arrived, told_jobs}

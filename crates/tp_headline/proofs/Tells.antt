@@ -6,26 +6,26 @@ use Rattle.std.proofs.lemmas.Bool.Decides.{nat_tests}
 use Rattle.std.proofs.lemmas.List.Elements.{All-nil, All-contains, Contains-append_left, Contains-append_right, Contains-append_cases, Contains-get_or}
 use Rattle.std.proofs.lemmas.Slice.Eq.{bytes_eq-Decides}
 use Rattle.tp_machine.specs.declared.machine.Machine.{Machine}
-use Rattle.tp_jobs.specs.Refusing.{is_tray_name}
+use Rattle.tp_jobs.specs.JobRefusals.{is_tray_name}
 use Rattle.tp_jobs.specs.declared.parts.Job.{Job}
 use Rattle.tp_schedule.proofs.Membership.{All-from_contains, Contains-cons_cases, Contains-here, Contains-map, Contains-map_from, flat_map-from, flat_map-to}
 use Rattle.tp_schedule.proofs.Pairs.{AllPairs-nil, AllPairs-cons, AllPairs-append, AllPairs-each}
-use Rattle.tp_schedule.specs.Holding.{Run}
+use Rattle.tp_schedule.specs.Holders.{Run}
 use Rattle.tp_schedule.specs.Plans.{IsTimedPlan, IsEarlier, end_of_plan, is_before, is_front}
 use Rattle.tp_schedule.specs.declared.parts.Plan.{Plan}
 use Rattle.tp_schedule.specs.declared.records.Record.{Record}
 use Rattle.tp_schedule.specs.declared.records.Record.TheVariants.{Done}
 use Rattle.tp_schedule.specs.declared.records.SheetName.{SheetName}
-use Rattle.tp_turn.specs.Clock.{Told, release_of, releases, is_done_between, delivery, deliveries, by_moment, clock_tells, record_of, clock_records}
-use Rattle.tp_turn.specs.Keeping.{is_of_its_job}
-use Rattle.tp_turn.specs.Labels.{label, location_name, end_location}
-use Rattle.tp_turn.specs.Moments.{due_until, is_tray_plan, is_to_tray}
-use Rattle.tp_turn.specs.Receiving.{Arrival, is_earlier, received, received_by, sheet_ref}
-use Rattle.tp_turn.specs.States.{SessionState}
-use Rattle.tp_turn.proofs.AskedFacts.{bytes_eq-same}
-use Rattle.tp_turn.proofs.ListFacts.{AllPairs-map_list}
-use Rattle.tp_outages.specs.Through.{KeepsOrder}
-use Rattle.tp_outages.proofs.PlanFacts.{not-false}
+use Rattle.tp_event_rules.specs.Clock.{Told, release_of, releases, is_done_between, delivery, deliveries, by_moment, clock_tells, record_of, clock_records}
+use Rattle.tp_event_rules.specs.StateInvariants.{is_of_its_job}
+use Rattle.tp_event_rules.specs.Labels.{label, location_name, end_location}
+use Rattle.tp_event_rules.specs.Moments.{due_until, is_tray_plan, is_to_tray}
+use Rattle.tp_event_rules.specs.Deliveries.{Arrival, is_earlier, received, received_by, sheet_ref}
+use Rattle.tp_event_rules.specs.States.{SessionState}
+use Rattle.tp_event_rules.proofs.AskedFacts.{bytes_eq-same}
+use Rattle.tp_event_rules.proofs.ListFacts.{AllPairs-map_list}
+use Rattle.tp_outage_laws.specs.Through.{KeepsOrder}
+use Rattle.tp_outage_laws.proofs.PlanFacts.{not-false}
 use Rattle.tp_headline.proofs.Delivered.{IsFor, by-order, ends-first, told-earlier}
 use Rattle.tp_headline.proofs.Numbers.{AreFirst, AreNamedApart}
 use Rattle.tp_headline.proofs.Locations.{own-location, tray-goal}

@@ -10,13 +10,13 @@ use Rattle.tp_machine.specs.declared.machine.Machine.{Machine}
 use Rattle.tp_schedule.proofs.CopyFacts.{same_copy-refl}
 use Rattle.tp_schedule.proofs.Membership.{All-from_contains, Contains-map_from, flat_map-from}
 use Rattle.tp_schedule.proofs.Pairs.{AllPairs-nil, AllPairs-cons, AllPairs-append, AllPairs-each}
-use Rattle.tp_schedule.specs.Holding.{Run, runs_from, runs_of}
+use Rattle.tp_schedule.specs.Holders.{Run, runs_from, runs_of}
 use Rattle.tp_schedule.specs.Plans.{IsEarlier, is_before, is_same_copy}
 use Rattle.tp_schedule.specs.declared.parts.Plan.{Plan}
 use Rattle.tp_schedule.specs.declared.parts.SheetId.{SheetId}
-use Rattle.tp_turn.specs.Clock.{Told, put_told, by_moment, release_of, releases, is_done_between, delivery, deliveries}
-use Rattle.tp_turn.specs.Moments.{due_until, is_due}
-use Rattle.tp_turn.proofs.ListFacts.{AllPairs-map_list}
+use Rattle.tp_event_rules.specs.Clock.{Told, put_told, by_moment, release_of, releases, is_done_between, delivery, deliveries}
+use Rattle.tp_event_rules.specs.Moments.{due_until, is_due}
+use Rattle.tp_event_rules.proofs.ListFacts.{AllPairs-map_list}
 use Rattle.tp_headline.specs.InOrder.{comes_first, IsToldBefore, to_tell, ClockTellsInOrder}
 use Rattle.tp_headline.proofs.Sorted.{AllPairs-flat_map, Either, InTime, pairs-by_moment}
 

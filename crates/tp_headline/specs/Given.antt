@@ -2,8 +2,8 @@
 use Rattle.std.specs.Prelude.{◌≡◌, ℕ, Bool, true, false, List, [], ◌∷◌, ◌++◌, filter, flat_map}
 use Rattle.tp_machine.specs.declared.machine.Machine.{Machine}
 use Rattle.tp_schedule.specs.Answers.{IsAlternative, IsEarliest, IsLeast, follows_front, kept_of}
-use Rattle.tp_schedule.specs.Planning.{Deed, IsAnswer, IsSettled}
-use Rattle.tp_schedule.specs.Planning.Deed.{replied, settled}
+use Rattle.tp_schedule.specs.PlannerAnswers.{Deed, IsAnswer, IsSettled}
+use Rattle.tp_schedule.specs.PlannerAnswers.Deed.{replied, settled}
 use Rattle.tp_schedule.specs.Plans.{plan_of}
 use Rattle.tp_schedule.specs.declared.parts.Ask.{Ask}
 use Rattle.tp_schedule.specs.declared.parts.Plan.{Plan}
@@ -11,12 +11,12 @@ use Rattle.tp_schedule.specs.declared.parts.Reply.{Reply}
 use Rattle.tp_schedule.specs.declared.parts.Reply.TheVariants.{Planned, Never, Spent}
 use Rattle.tp_schedule.specs.declared.records.Record.{Record}
 use Rattle.tp_schedule.specs.declared.records.Record.TheVariants.{Plan as TellsPlan, Never as TellsNever, Budget}
-use Rattle.tp_turn.specs.Answering.{label_of_asked, told_of_planned}
-use Rattle.tp_turn.specs.Labels.{goal_name}
-use Rattle.tp_turn.specs.Logs.{Entry}
-use Rattle.tp_turn.specs.Planners.{PlannerSteps}
-use Rattle.tp_turn.specs.States.{SessionState, empty_state}
-use Rattle.tp_turn.specs.Turns.{Turn}
+use Rattle.tp_event_rules.specs.AnswerRecords.{label_of_asked, told_of_planned}
+use Rattle.tp_event_rules.specs.Labels.{goal_name}
+use Rattle.tp_event_rules.specs.Logs.{Entry}
+use Rattle.tp_event_rules.specs.Planners.{PlannerSteps}
+use Rattle.tp_event_rules.specs.States.{SessionState, empty_state}
+use Rattle.tp_event_rules.specs.Turns.{Turn}
 
 -- an answer that was given: the schedule that was asked, the ask, the reply, and the schedule after it
 pub record Given : Type 0 where

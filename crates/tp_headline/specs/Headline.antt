@@ -2,21 +2,21 @@
 use Rattle.std.specs.Prelude.{◌≡◌, ◌≤◌, ℕ, Bool, List, ◌∷◌, ◌++◌, length, Option, IsTrue}
 use Rattle.tp_machine.specs.declared.machine.Machine.{Machine}
 use Rattle.tp_script.specs.declared.event.Event.{Event}
-use Rattle.tp_jobs.specs.Refusing.{is_tray_name}
-use Rattle.tp_schedule.specs.Holding.{held}
+use Rattle.tp_jobs.specs.JobRefusals.{is_tray_name}
+use Rattle.tp_schedule.specs.Holders.{held}
 use Rattle.tp_schedule.specs.Legality.{IsLegal}
 use Rattle.tp_schedule.specs.declared.parts.Ask.{Ask}
 use Rattle.tp_schedule.specs.declared.parts.Plan.{Plan}
-use Rattle.tp_turn.specs.Logs.{Entry, TreeClaims, IsLawful}
+use Rattle.tp_event_rules.specs.Logs.{Entry, TreeClaims, IsLawful}
 use Rattle.tp_schedule.specs.declared.records.Record.{Record}
 use Rattle.tp_schedule.specs.declared.records.Record.TheVariants.{Plan as TellsPlan, Never as TellsNever, Budget}
 use Rattle.tp_schedule.specs.declared.records.SheetName.{SheetName}
-use Rattle.tp_turn.specs.Receiving.{ReceivesInOrder, records_of}
-use Rattle.tp_turn.specs.Laws.{totals_after}
-use Rattle.tp_turn.specs.Planners.{PlannerSteps}
-use Rattle.tp_turn.specs.States.{SessionState}
-use Rattle.tp_turn.specs.Turns.{Turn}
-use Rattle.tp_outages.specs.Through.{KeepsOrder}
+use Rattle.tp_event_rules.specs.Deliveries.{ReceivesInOrder, records_of}
+use Rattle.tp_event_rules.specs.Laws.{totals_after}
+use Rattle.tp_event_rules.specs.Planners.{PlannerSteps}
+use Rattle.tp_event_rules.specs.States.{SessionState}
+use Rattle.tp_event_rules.specs.Turns.{Turn}
+use Rattle.tp_outage_laws.specs.Through.{KeepsOrder}
 use Rattle.tp_headline.specs.Given.{IsEarliestThere, IsNoneThere, IsSpentThere}
 
 -- what trees claim

@@ -5,13 +5,13 @@ use Rattle.tp_schedule.specs.Plans.{IsEarlier, is_before, is_same_copy}
 use Rattle.tp_schedule.specs.declared.parts.Plan.{Plan}
 use Rattle.tp_schedule.specs.declared.records.Record.{Record}
 use Rattle.tp_schedule.specs.declared.records.Record.TheVariants.{Broken}
-use Rattle.tp_turn.specs.Clock.{Told, deliveries, releases, clock_tells}
-use Rattle.tp_turn.specs.FallBacks.{Notice, notices_of_waiting, notices_of_plans, job_break}
-use Rattle.tp_turn.specs.Keeping.{is_planned_among}
-use Rattle.tp_turn.specs.Labels.{job_name}
-use Rattle.tp_turn.specs.States.{SessionState}
-use Rattle.tp_turn.specs.declared.telling.Tell.{Tell}
-use Rattle.tp_turn.specs.declared.telling.Tell.TheVariants.{Done, Release}
+use Rattle.tp_event_rules.specs.Clock.{Told, deliveries, releases, clock_tells}
+use Rattle.tp_event_rules.specs.FallBacks.{Notice, notices_of_waiting, notices_of_plans, job_break}
+use Rattle.tp_event_rules.specs.StateInvariants.{is_planned_among}
+use Rattle.tp_event_rules.specs.Labels.{job_name}
+use Rattle.tp_event_rules.specs.States.{SessionState}
+use Rattle.tp_event_rules.specs.declared.tell.Tell.{Tell}
+use Rattle.tp_event_rules.specs.declared.tell.Tell.TheVariants.{Done, Release}
 
 -- of what is told of one moment, deliveries come before releases, then copies in their order, and a copy's actions by number
 abbrev pub comes_first : Tell → Tell → Bool

@@ -8,9 +8,9 @@ ghost use Rattle.tp_headline.specs.Headline.{LawfulLogsReceiveInOrder, LawfulPla
 ghost use Rattle.tp_headline.specs.Headline.{LawfulNonesAreNone, LawfulBudgetsAreSpent};
 ghost use Rattle.tp_headline.specs.Headline.{TurnsKeepOrder};
 ghost use Rattle.tp_headline.specs.InOrder.{ClockTellsInOrder, BreaksTellInOrder};
-ghost use Rattle.tp_outages.specs.Through.{KeepsOrder};
-ghost use Rattle.tp_turn.specs.Planners.{right_steps};
-ghost use Rattle.tp_turn.specs.States.{empty_state};
+ghost use Rattle.tp_outage_laws.specs.Through.{KeepsOrder};
+ghost use Rattle.tp_event_rules.specs.Planners.{right_steps};
+ghost use Rattle.tp_event_rules.specs.States.{empty_state};
 
 use tp_schedule::Planner;
 

@@ -2,7 +2,7 @@
 use Rattle.std.proofs.Common.{◌≡◌, ◌∙◌, ℕ, zero, suc, ◌<◌, true, List, [], ◌∷◌, length, set, get_or, refl, ap, sym, arith}
 use Rattle.std.proofs.lemmas.List.Elements.{All-weaker}
 use Rattle.tp_jobs.specs.Backlogs.{IsOfJob, mark_broken, names_of}
-use Rattle.tp_jobs.specs.Keeping.{Keeps}
+use Rattle.tp_jobs.specs.LineInvariants.{Keeps}
 use Rattle.tp_jobs.specs.declared.parts.Job.{Job}
 use Rattle.tp_jobs.specs.declared.parts.WaitingCopy.{WaitingCopy}
 

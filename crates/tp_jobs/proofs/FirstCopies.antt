@@ -11,8 +11,8 @@ use Rattle.tp_schedule.proofs.Pairs.{AllPairs-cons, AllPairs-nil}
 use Rattle.tp_schedule.specs.Plans.{is_before}
 use Rattle.tp_jobs.specs.Backlogs.{WaitsBefore}
 use Rattle.tp_script.specs.Form.{GroupForm}
-use Rattle.tp_jobs.specs.Refusing.{sheet_count}
-use Rattle.tp_jobs.specs.Waiting.{first_copies, sheet_of, sheets_of}
+use Rattle.tp_jobs.specs.JobRefusals.{sheet_count}
+use Rattle.tp_jobs.specs.WaitingCopies.{first_copies, sheet_of, sheets_of}
 use Rattle.tp_jobs.specs.declared.parts.WaitingCopy.{WaitingCopy}
 
 pub first_copies-append : (job n : ℕ) (xs ys : List Sheet) → first_copies job n (xs ++ ys) ≡ first_copies job n xs ++ first_copies job (n + length xs) ys

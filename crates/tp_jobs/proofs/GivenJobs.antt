@@ -8,7 +8,7 @@ use Rattle.std.proofs.lemmas.List.Folds.{list_any_none}
 use Rattle.std.proofs.lemmas.Slice.Eq.{bytes_eq-Decides}
 use Rattle.tp_schedule.proofs.Pairs.{AllPairs-nil}
 use Rattle.tp_jobs.specs.Backlogs.{IsOfJob, WaitsBefore, names_of}
-use Rattle.tp_jobs.specs.Keeping.{Keeps}
+use Rattle.tp_jobs.specs.LineInvariants.{Keeps}
 use Rattle.tp_jobs.specs.declared.parts.Job.{Job}
 
 abbrev Differ : Job → Job → Type 0

@@ -14,8 +14,8 @@ use Rattle.tp_schedule.proofs.Pairs.{AllPairs-append}
 use Rattle.tp_schedule.specs.Plans.{is_before, is_same_copy}
 use Rattle.tp_schedule.specs.declared.parts.SheetId.{SheetId}
 use Rattle.tp_jobs.specs.Backlogs.{Backlog, IsBacklog, IsOfJob, WaitsBefore, names_of}
-use Rattle.tp_jobs.specs.Keeping.{Keeps}
-use Rattle.tp_jobs.specs.Waiting.{find_waiting, first_copies, put_waiting, without_waiting}
+use Rattle.tp_jobs.specs.LineInvariants.{Keeps}
+use Rattle.tp_jobs.specs.WaitingCopies.{find_waiting, first_copies, put_waiting, without_waiting}
 use Rattle.tp_jobs.specs.declared.parts.Job.{Job}
 use Rattle.tp_jobs.specs.declared.parts.WaitingCopy.{WaitingCopy}
 use Rattle.tp_jobs.proofs.FirstCopies.{first_copies-are_of, first_copies-in_order, length-first_copies}

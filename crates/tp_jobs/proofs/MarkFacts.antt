@@ -4,7 +4,7 @@ use Rattle.std.specs.List.{count_by}
 use Rattle.std.proofs.lemmas.List.{length-map, length-take-le, take-append-le, take_all}
 use Rattle.std.proofs.lemmas.List.Sums.{sum_by-cons}
 use Rattle.tp_jobs.proofs.WholeFacts.{length-all_whole}
-use Rattle.tp_jobs.specs.Keeping.{Keeps, jobs_then, mark_all_whole, mark_whole, whole_count}
+use Rattle.tp_jobs.specs.LineInvariants.{Keeps, jobs_then, mark_all_whole, mark_whole, whole_count}
 use Rattle.tp_jobs.specs.declared.parts.Job.{Job}
 use Rattle.tp_jobs.specs.declared.parts.WaitingCopy.{WaitingCopy}
 

@@ -9,8 +9,8 @@ use Rattle.tp_schedule.specs.Plans.{is_same_copy}
 use Rattle.tp_schedule.specs.declared.parts.SheetId.{SheetId}
 use Rattle.tp_jobs.proofs.PlaceFacts.{find-behind, is_behind}
 use Rattle.tp_jobs.specs.Backlogs.{Backlog, IsOfJob, WaitsBefore}
-use Rattle.tp_jobs.specs.Trying.{comes_after, is_open, next_to_try}
-use Rattle.tp_jobs.specs.Waiting.{find_waiting}
+use Rattle.tp_jobs.specs.NextTry.{comes_after, is_open, next_to_try}
+use Rattle.tp_jobs.specs.WaitingCopies.{find_waiting}
 use Rattle.tp_jobs.specs.declared.parts.WaitingCopy.{WaitingCopy}
 
 -- the copies that come after the last one tried, from its place on

@@ -6,7 +6,7 @@ use Rattle.tp_schedule.proofs.Pairs.{AllPairs-head, AllPairs-tail, AllPairs-cons
 use Rattle.tp_schedule.specs.Plans.{is_before, is_same_copy}
 use Rattle.tp_schedule.specs.declared.parts.SheetId.{SheetId}
 use Rattle.tp_jobs.specs.Backlogs.{WaitsBefore}
-use Rattle.tp_jobs.specs.Waiting.{find_waiting, put_waiting, without_waiting}
+use Rattle.tp_jobs.specs.WaitingCopies.{find_waiting, put_waiting, without_waiting}
 use Rattle.tp_jobs.specs.declared.parts.WaitingCopy.{WaitingCopy}
 
 pub All-put_waiting : (P : WaitingCopy → Type 0) (w : WaitingCopy) (xs : List WaitingCopy) → P w → All P xs → All P (put_waiting xs w)

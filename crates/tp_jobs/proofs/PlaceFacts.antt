@@ -10,7 +10,7 @@ use Rattle.tp_schedule.proofs.Pairs.{AllPairs-head, AllPairs-tail}
 use Rattle.tp_schedule.specs.Plans.{is_before, is_same_copy}
 use Rattle.tp_schedule.specs.declared.parts.SheetId.{SheetId}
 use Rattle.tp_jobs.specs.Backlogs.{WaitsBefore}
-use Rattle.tp_jobs.specs.Waiting.{find_waiting, put_waiting, without_waiting}
+use Rattle.tp_jobs.specs.WaitingCopies.{find_waiting, put_waiting, without_waiting}
 use Rattle.tp_jobs.specs.declared.parts.WaitingCopy.{WaitingCopy}
 
 abbrev pub is_behind : SheetId → WaitingCopy → Bool

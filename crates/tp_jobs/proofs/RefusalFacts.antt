@@ -4,7 +4,7 @@ use Rattle.std.specs.Prelude.{nat_lt}
 use Rattle.std.proofs.lemmas.Bool.Decides.{nat_tests}
 use Rattle.tp_machine.specs.declared.machine.Machine.{Machine}
 use Rattle.tp_script.specs.Form.{GroupForm}
-use Rattle.tp_jobs.specs.Refusing.{has_media, is_taken, is_tray_name, job_fault, most_waiting, sheet_count}
+use Rattle.tp_jobs.specs.JobRefusals.{has_media, is_taken, is_tray_name, job_fault, most_waiting, sheet_count}
 use Rattle.tp_jobs.specs.declared.fault.JobFault.TheVariants.{UnknownTray, UnknownMedia, TwiceNamed, TooManyWaiting}
 use Rattle.tp_jobs.specs.declared.parts.Job.{Job}
 

@@ -1,7 +1,7 @@
 -- A job that was broken is whole again as it was.
 use Rattle.std.proofs.Common.{◌≡◌, ◌∙◌, ℕ, zero, suc, ◌+◌, ◌<◌, ◌≤◌, true, false, List, [], ◌∷◌, ◌++◌, length, take, drop, drop-cons, add-one, set, get_or, refl, ap, sym, arith}
 use Rattle.tp_jobs.specs.Backlogs.{mark_broken}
-use Rattle.tp_jobs.specs.Keeping.{jobs_then, mark_whole, mark_all_whole}
+use Rattle.tp_jobs.specs.LineInvariants.{jobs_then, mark_whole, mark_all_whole}
 use Rattle.tp_jobs.specs.declared.parts.Job.{Job}
 
 whole-set : (jobs : List Job) (n : ℕ) (d : Job) → n < length jobs → set jobs n (record (get_or jobs n d) { broken = false }) ≡ mark_whole n jobs

@@ -1,19 +1,19 @@
 //! The lines: the jobs that came, and the copies that wait.
 ghost use Rattle.std.specs.Prelude.{◌≡◌, ◌≢◌, ◌+◌, ◌<◌, ◌^◌, length, slice_get, option_map, Some, None, IsSome, IsSomeAnd, IfSome, IfOk, IfErr, OnOk, OnErr};
 ghost use Rattle.tp_jobs.specs.Backlogs.{mark_broken, next_copy};
-ghost use Rattle.tp_jobs.specs.Refusing.{job_fault, refusal_in, tray_named};
-ghost use Rattle.tp_jobs.specs.Waiting.{find_waiting, has_waiting, put_waiting, without_waiting, sheets_of, new_job, with_job};
+ghost use Rattle.tp_jobs.specs.JobRefusals.{job_fault, refusal_in, tray_named};
+ghost use Rattle.tp_jobs.specs.WaitingCopies.{find_waiting, has_waiting, put_waiting, without_waiting, sheets_of, new_job, with_job};
 ghost use Rattle.tp_jobs.specs.declared.fault.JobFault.TheVariants.{Memory as WantsMemory};
 
-use crate::blocking::Blocked;
+use crate::blocked::Blocked;
 use crate::fault::JobFault;
-use crate::making::make_copies;
+use crate::given_lists::{list_of, names_of, rows_of};
+use crate::job_check::{count_sheets, find_tray, has_feeder};
+use crate::line_changes::{break_in, keep_waiting, make_whole, wait_again};
+use crate::new_copies::make_copies;
 use crate::parts::{Job, WaitingCopy};
-use crate::queueing::{first_open, has_copy_for, place_behind, place_of};
-use crate::rebuilding::{list_of, names_of, rows_of};
-use crate::refusing::{count_sheets, find_tray, has_feeder};
 use crate::standing::{JobRows, WaitRows};
-use crate::undoing::{break_in, keep_waiting, make_whole, wait_again};
+use crate::waiting_queue::{first_open, has_copy_for, place_behind, place_of};
 use indexmap::IndexSet;
 use std::alloc::Global;
 use std::collections::VecDeque;
@@ -63,7 +63,7 @@ impl Model for Lines {
 
     ghost Value = { Backlog };
 
-    ghost use Rattle.tp_jobs.specs.Keeping.{KeepsMark, backlog_of};
+    ghost use Rattle.tp_jobs.specs.LineInvariants.{KeepsMark, backlog_of};
 
     ghost view = { backlog_of };
 
@@ -72,7 +72,7 @@ impl Model for Lines {
 
 impl Lines {
     ghost use Rattle.tp_jobs.specs.Backlogs.{IsBacklog, no_backlog, marked, undone, unmarked};
-    ghost use Rattle.tp_jobs.specs.Trying.{next_to_try};
+    ghost use Rattle.tp_jobs.specs.NextTry.{next_to_try};
 
     /// No job. It takes no memory.
     pub fn new(alloc: Global) -> Lines

@@ -20,7 +20,7 @@ use Rattle.tp_log.specs.declared.log_line.LogLine.{LogLine}
 use Rattle.tp_log.specs.declared.log_line.LogLine.TheVariants.{Event, Note, Room, Node}
 use Rattle.tp_log.specs.Grammar.{IsRecord, echo_text}
 use Rattle.tp_log.specs.LogLines.{IsLogLine, ReadsLogLine, ReadsPlain, is_plain, log_line_text}
-use Rattle.tp_log.specs.Reading.{record_of}
+use Rattle.tp_log.specs.RecordReaders.{record_of}
 use Rattle.tp_log.specs.Records.{record_text, record_words}
 use Rattle.tp_log.proofs.LineFacts.{not_told, text_again}
 

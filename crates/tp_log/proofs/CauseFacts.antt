@@ -6,7 +6,7 @@ use Rattle.std.proofs.lemmas.Bool.{cases_Bool}
 use Rattle.std.proofs.lemmas.Option.{same_Some}
 use Rattle.std.proofs.lemmas.Slice.Eq.{bytes_eq-Decides}
 use Rattle.tp_words.proofs.Steps.{and_then_some}
-use Rattle.tp_words.proofs.Spelling.{Tells, name_spells, number_spells}
+use Rattle.tp_words.proofs.SpelledWords.{Tells, name_spells, number_spells}
 use Rattle.tp_words.proofs.Texts.{AllVisible, name_visible, number_visible}
 use Rattle.tp_schedule.specs.declared.records.Cause.{Cause}
 use Rattle.tp_schedule.specs.declared.records.Cause.TheVariants.{Syntax, Tray, Media, Named, Waiting, Back, End, «Module», Out, NotOn, Feeder, Endless, Stock}
@@ -15,7 +15,7 @@ use Rattle.tp_log.specs.declared.reason.Reason.TheVariants as reasons
 use Rattle.tp_log.specs.Headings.{reason_text, reason_of, reasons as all_reasons}
 use Rattle.tp_log.specs.Records.{cause_words}
 use Rattle.tp_log.specs.Grammar.{IsCause}
-use Rattle.tp_log.specs.Reading.{bare_of, cause_after, cause_of}
+use Rattle.tp_log.specs.RecordReaders.{bare_of, cause_after, cause_of}
 use Rattle.tp_log.proofs.Forms.{one_again, one_made}
 
 pub find_passes : {A : Type 0} (p : A → Bool) (xs : List A) (x : A) → find p xs ≡ Some x → p x ≡ true

@@ -4,8 +4,8 @@ use Rattle.std.specs.Prelude.{option_and_then, option_map}
 use Rattle.std.proofs.lemmas.Option.{same_Some}
 use Rattle.tp_words.specs.Fields.{two_of, five_of}
 use Rattle.tp_words.proofs.Steps.{and_then_some, map_some}
-use Rattle.tp_words.proofs.Spelling.{Spells, Tells, two_takes, five_takes}
-use Rattle.tp_log.specs.Reading.{one_of, three_of}
+use Rattle.tp_words.proofs.SpelledWords.{Spells, Tells, two_takes, five_takes}
+use Rattle.tp_log.specs.RecordReaders.{one_of, three_of}
 
 one_takes : {A : Type 0} {ra : List ℕ → Option A} {ta : A → List ℕ} {Fa : A → Type 0} {p : ℕ → Bool} (sa : Spells ra ta Fa p) (words : List (List ℕ)) (x : A) → one_of ra words ≡ Some x → (words ≡ ta x ∷ []) × Fa x
 unfolding one_of

@@ -13,12 +13,12 @@ use Rattle.tp_bounds.specs.declared.tree.Node.{Node as ANode}
 use Rattle.tp_bounds.specs.declared.tree.TreeRow.{TreeRow}
 use Rattle.tp_schedule.specs.declared.records.Record.{Record}
 use Rattle.tp_script.specs.declared.event.Event.{Event as AnEvent}
-use Rattle.tp_log.specs.declared.gathering.NextLine.{NextLine}
+use Rattle.tp_log.specs.declared.gathered.NextLine.{NextLine}
 use Rattle.tp_log.specs.declared.item.Item.{Item}
 use Rattle.tp_log.specs.declared.item.Item.TheVariants.{Event, Note, Tree}
 use Rattle.tp_log.specs.declared.log_line.LogLine.{LogLine}
 use Rattle.tp_log.specs.declared.log_line.LogLine.TheVariants as line
-use Rattle.tp_log.specs.Gathering.{AreGathered, EndsWith, allows, behind, closed, has_lines, is_tree, item_lines, lines_with, log_lines, next_of}
+use Rattle.tp_log.specs.GatheredItems.{AreGathered, EndsWith, allows, behind, closed, has_lines, is_tree, item_lines, lines_with, log_lines, next_of}
 use Rattle.tp_log.specs.LogLines.{AreInOrder, IsLogLine, takes_tree}
 use Rattle.tp_log.specs.Logs.{AreInPlace, IsItem, IsLog, StandEach, StandsBehind, is_open, log_text}
 use Rattle.tp_log.proofs.Items.{node_lines, row_lines, text_of-log, tree_of}

@@ -13,7 +13,7 @@ use Rattle.tp_log.specs.declared.item.Item.{Item}
 use Rattle.tp_log.specs.declared.item.Item.TheVariants.{Event, Note, Tree}
 use Rattle.tp_log.specs.declared.log_line.LogLine.{LogLine}
 use Rattle.tp_log.specs.declared.log_line.LogLine.TheVariants as line
-use Rattle.tp_log.specs.Gathering.{is_tree, item_lines, log_lines}
+use Rattle.tp_log.specs.GatheredItems.{is_tree, item_lines, log_lines}
 use Rattle.tp_log.specs.LogLines.{AreInOrder, FollowEach, IsLogLine, log_line_text, takes_node, takes_row}
 use Rattle.tp_log.specs.Logs.{AreInPlace, IsItem, IsLog, StandEach, is_open, item_text, log_text}
 use Rattle.tp_log.proofs.LogLines.{text_of}

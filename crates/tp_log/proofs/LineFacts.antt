@@ -6,7 +6,7 @@ use Rattle.tp_schedule.specs.declared.records.Record.{Record}
 use Rattle.tp_script.specs.declared.fault.LineFault.{LineFault}
 use Rattle.tp_script.specs.declared.fault.LineFault.TheVariants.{Memory, Syntax}
 use Rattle.tp_script.specs.Printed.{Echoes}
-use Rattle.tp_script.specs.Reading.{Gives}
+use Rattle.tp_script.specs.EventReaders.{Gives}
 use Rattle.tp_words.specs.Texts.{spaced}
 use Rattle.tp_script.specs.Script.{event_text}
 use Rattle.tp_words.proofs.Texts.{parts-spaced, spaced-parts}
@@ -15,7 +15,7 @@ use Rattle.tp_log.specs.declared.log_line.LogLine.TheVariants.{Event, Note, Room
 use Rattle.tp_log.specs.Records.{record_words, record_text}
 use Rattle.tp_log.specs.Grammar.{IsRecord}
 use Rattle.tp_log.specs.LogLines.{IsLogLine, ReadsPlain, is_plain, log_line_text}
-use Rattle.tp_log.specs.Reading.{record_of}
+use Rattle.tp_log.specs.RecordReaders.{record_of}
 use Rattle.tp_log.proofs.RecordFacts.{record_takes, record_again, record_visible}
 
 some_words : (words : List (List ℕ)) (r : Record) → record_of words ≡ Some r → 0 < length words

@@ -8,10 +8,10 @@ use Rattle.tp_words.specs.Texts.{lines_of}
 use Rattle.tp_log.specs.declared.fault.LogFault.{LogFault}
 use Rattle.tp_log.specs.declared.fault.LogFault.TheVariants.{Bad, Memory}
 use Rattle.tp_bounds.specs.declared.tree.BoundTree.{BoundTree}
-use Rattle.tp_log.specs.declared.gathering.NextLine.{NextLine}
+use Rattle.tp_log.specs.declared.gathered.NextLine.{NextLine}
 use Rattle.tp_log.specs.declared.item.Item.{Item}
 use Rattle.tp_log.specs.declared.log_line.LogLine.{LogLine}
-use Rattle.tp_log.specs.Gathering.{AreGathered, lines_with, log_lines}
+use Rattle.tp_log.specs.GatheredItems.{AreGathered, lines_with, log_lines}
 use Rattle.tp_log.specs.LogLines.{AreInOrder, IsLogLine, log_line_text}
 use Rattle.tp_log.specs.Logs.{IfBad, IsFirstOff, IsLog, log_text}
 use Rattle.tp_log.proofs.Items.{in_order, log_known, same_items, text_of-log}

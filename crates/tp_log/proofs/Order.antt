@@ -5,7 +5,7 @@ use Rattle.tp_bounds.specs.declared.tree.TreeRow.{TreeRow}
 use Rattle.tp_log.specs.declared.log_line.LogLine.{LogLine}
 use Rattle.tp_log.specs.declared.log_line.LogLine.TheVariants.{Event, Note, Room, Node}
 use Rattle.tp_log.specs.LogLines.{AreInOrder, FollowEach, may_follow}
-use Rattle.tp_log.specs.Gathering.{allows, behind, last_from, next_of}
+use Rattle.tp_log.specs.GatheredItems.{allows, behind, last_from, next_of}
 
 -- ---- one line more
 follow_more : (before : LogLine) (lines : List LogLine) (told : LogLine) → FollowEach before lines → IsTrue (may_follow (last_from before lines) told) → FollowEach before (lines ++ told ∷ [])

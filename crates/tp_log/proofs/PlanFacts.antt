@@ -9,7 +9,7 @@ use Rattle.tp_words.specs.Numbers.{IsNumber, number_of}
 use Rattle.tp_words.specs.Each.{each_read}
 use Rattle.tp_words.specs.Fields.{name_of}
 use Rattle.tp_words.proofs.Steps.{and_then_some}
-use Rattle.tp_words.proofs.Spelling.{Tells, name_spells, number_spells}
+use Rattle.tp_words.proofs.SpelledWords.{Tells, name_spells, number_spells}
 use Rattle.tp_bounds.proofs.SheetFacts.{sheet_spells}
 use Rattle.tp_words.proofs.Texts.{AllVisible, name_visible, number_visible}
 use Rattle.tp_words.proofs.Lists.{list_takes, list_again}
@@ -22,7 +22,7 @@ use Rattle.tp_log.specs.declared.heading.Heading.TheVariants as headings
 use Rattle.tp_log.specs.Headings.{heading_text}
 use Rattle.tp_log.specs.Records.{turns_words, record_words}
 use Rattle.tp_log.specs.Grammar.{IsRecord}
-use Rattle.tp_log.specs.Reading.{turns_of, plan_with, plan_of, move_with, move_of}
+use Rattle.tp_log.specs.RecordReaders.{turns_of, plan_with, plan_of, move_with, move_of}
 
 -- ---- points and actions in turn
 record TurnsTake (words : List (List ℕ)) (t : List ℕ × List (List ℕ)) : Type 0 where

@@ -4,7 +4,7 @@ use Rattle.std.specs.Prelude.{option_map}
 use Rattle.std.specs.Str.{bytes_eq}
 use Rattle.std.proofs.lemmas.Slice.Eq.{bytes_eq-Decides}
 use Rattle.tp_words.proofs.Steps.{and_then_some, map_some}
-use Rattle.tp_words.proofs.Spelling.{Tells, name_spells, number_spells, two_again, five_again}
+use Rattle.tp_words.proofs.SpelledWords.{Tells, name_spells, number_spells, two_again, five_again}
 use Rattle.tp_bounds.proofs.SheetFacts.{sheet_spells, sheet_visible}
 use Rattle.tp_words.proofs.Texts.{AllVisible, name_visible, number_visible}
 use Rattle.tp_schedule.specs.declared.records.Record.{Record}
@@ -16,7 +16,7 @@ use Rattle.tp_log.specs.declared.heading.Heading.TheVariants as headings
 use Rattle.tp_log.specs.Headings.{heading_text, heading_of, headings as all_headings}
 use Rattle.tp_log.specs.Records.{record_words}
 use Rattle.tp_log.specs.Grammar.{IsRecord}
-use Rattle.tp_log.specs.Reading.{one_of, cause_of, record_after, record_of}
+use Rattle.tp_log.specs.RecordReaders.{one_of, cause_of, record_after, record_of}
 use Rattle.tp_log.proofs.WordFacts.{goal_spells, goal_visible}
 use Rattle.tp_log.proofs.Forms.{one_again, one_made, two_made, three_again, three_made, five_made}
 use Rattle.tp_log.proofs.PlanFacts.{plan_takes, plan_again, turns_visible, move_takes, move_again, points_visible}

@@ -7,7 +7,7 @@ use Rattle.tp_words.specs.Numbers.{number_of}
 use Rattle.tp_words.specs.Parts.{shown}
 use Rattle.tp_words.specs.Fields.{name_of}
 use Rattle.tp_log.specs.Records.{turns_words}
-use Rattle.tp_log.specs.Reading.{turns_of}
+use Rattle.tp_log.specs.RecordReaders.{turns_of}
 
 -- the turns behind what was read so far
 abbrev pub behind : List ℕ → List (List ℕ) → Option (List ℕ × List (List ℕ)) → Option (List ℕ × List (List ℕ))

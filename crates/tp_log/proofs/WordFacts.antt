@@ -9,11 +9,11 @@ use Rattle.std.proofs.lemmas.Option.{same_Some}
 use Rattle.tp_base.specs.NameText.{is_name_byte}
 use Rattle.tp_words.specs.Fields.{IsName, name_of}
 use Rattle.tp_words.proofs.Steps.{map_some}
-use Rattle.tp_words.proofs.Spelling.{Spells, name_spells, weaker}
+use Rattle.tp_words.proofs.SpelledWords.{Spells, name_spells, weaker}
 use Rattle.tp_words.proofs.Texts.{IsVisible, visible}
 use Rattle.tp_log.specs.Records.{goal_text}
 use Rattle.tp_log.specs.Grammar.{IsGoal}
-use Rattle.tp_log.specs.Reading.{goal_of}
+use Rattle.tp_log.specs.RecordReaders.{goal_of}
 
 -- ---- a goal
 abbrev pub goal_byte : ℕ → Bool

@@ -3,5 +3,5 @@ pub mod Headings
 pub mod Grammar
 pub mod LogLines
 pub mod Logs
-pub mod Gathering
-pub mod Reading
+pub mod GatheredItems
+pub mod RecordReaders

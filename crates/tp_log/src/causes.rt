@@ -3,7 +3,7 @@ ghost use Rattle.std.specs.Prelude.{◌≡◌, ◌++◌, ◌∷◌, OnOk};
 ghost use Rattle.std.specs.List.{flat_map};
 ghost use Rattle.tp_words.specs.Parts.{shown};
 ghost use Rattle.tp_log.specs.Records.{cause_words};
-ghost use Rattle.tp_log.specs.Reading.{bare_of, cause_after, cause_of};
+ghost use Rattle.tp_log.specs.RecordReaders.{bare_of, cause_after, cause_of};
 
 use crate::fields::{only_name, only_number};
 use crate::reason::Reason;
@@ -12,14 +12,14 @@ use tp_schedule::Cause;
 use tp_words::{put_number_word, put_word};
 
 /// The cause, if no word follows.
-#[tactic(auto, unfolding(crate::specs::Reading::bare_of))]
+#[tactic(auto, unfolding(crate::specs::RecordReaders::bare_of))]
 fn bare(cause: Cause, words: &[&[u8]]) -> Option<Cause>
     ensures { result ≡ bare_of cause (shown words.now) }
 {
     if words.is_empty() { Some(cause) } else { None }
 }
 
-#[tactic(auto, unfolding(crate::specs::Reading::cause_after))]
+#[tactic(auto, unfolding(crate::specs::RecordReaders::cause_after))]
 fn read_after(reason: Reason, words: &[&[u8]]) -> Option<Cause>
     ensures { result ≡ cause_after reason (shown words.now) }
 {
@@ -40,7 +40,7 @@ fn read_after(reason: Reason, words: &[&[u8]]) -> Option<Cause>
     }
 }
 
-#[tactic(auto, unfolding(crate::specs::Reading::cause_of))]
+#[tactic(auto, unfolding(crate::specs::RecordReaders::cause_of))]
 pub fn read_cause(words: &[&[u8]]) -> Option<Cause>
     ensures { result ≡ cause_of (shown words.now) }
 {

@@ -5,14 +5,14 @@ ghost use Rattle.tp_words.specs.Fields.{name_of};
 ghost use Rattle.tp_words.specs.Numbers.{number_of};
 ghost use Rattle.tp_bounds.specs.Sheets.{sheet_of, sheet_text};
 ghost use Rattle.tp_log.specs.Records.{goal_text};
-ghost use Rattle.tp_log.specs.Reading.{goal_of, one_of};
+ghost use Rattle.tp_log.specs.RecordReaders.{goal_of, one_of};
 
 use tp_base::{Memory, Name};
 use tp_bounds::{put_sheet, read_sheet};
 use tp_schedule::SheetName;
 use tp_words::{put_word, read_name, read_number};
 
-#[tactic(auto, unfolding(crate::specs::Reading::goal_of))]
+#[tactic(auto, unfolding(crate::specs::RecordReaders::goal_of))]
 pub fn read_goal(word: &[u8]) -> Option<Option<Name>>
     ensures { result ≡ goal_of word.now }
 {
@@ -22,7 +22,7 @@ pub fn read_goal(word: &[u8]) -> Option<Option<Name>>
     read_name(word).map(Some)
 }
 
-#[tactic(auto, unfolding(crate::specs::Reading::one_of))]
+#[tactic(auto, unfolding(crate::specs::RecordReaders::one_of))]
 pub fn only_sheet(words: &[&[u8]]) -> Option<SheetName>
     ensures { result ≡ one_of sheet_of (shown words.now) }
 {
@@ -32,7 +32,7 @@ pub fn only_sheet(words: &[&[u8]]) -> Option<SheetName>
     read_sheet(sheet)
 }
 
-#[tactic(auto, unfolding(crate::specs::Reading::one_of))]
+#[tactic(auto, unfolding(crate::specs::RecordReaders::one_of))]
 pub fn only_name(words: &[&[u8]]) -> Option<Name>
     ensures { result ≡ one_of name_of (shown words.now) }
 {
@@ -42,7 +42,7 @@ pub fn only_name(words: &[&[u8]]) -> Option<Name>
     read_name(name)
 }
 
-#[tactic(auto, unfolding(crate::specs::Reading::one_of))]
+#[tactic(auto, unfolding(crate::specs::RecordReaders::one_of))]
 pub fn only_number(words: &[&[u8]]) -> Option<u32>
     ensures { result ≡ one_of number_of (shown words.now) }
 {

@@ -1,13 +1,13 @@
 //! The line of an event or of a record.
 ghost use Rattle.std.specs.Prelude.{◌≡◌, ◌≢◌, ◌+◌, ◌<◌, ◌^◌, ℕ, List, ◌∷◌, ◌++◌, length, MatchOption, OnOk, OnErr};
 ghost use Rattle.tp_words.specs.Parts.{parts_at};
-ghost use Rattle.tp_script.specs.Reading.{Gives};
-ghost use Rattle.tp_log.specs.Reading.{record_of};
+ghost use Rattle.tp_script.specs.EventReaders.{Gives};
+ghost use Rattle.tp_log.specs.RecordReaders.{record_of};
 ghost use Rattle.tp_log.specs.Grammar.{echo_text};
 ghost use Rattle.tp_log.specs.LogLines.{ReadsPlain};
 
 use crate::log_line::LogLine;
-use crate::records::read_record;
+use crate::record_reader::read_record;
 use std::alloc::Global;
 use tp_base::Memory;
 use tp_schedule::Record;

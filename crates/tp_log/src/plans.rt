@@ -4,9 +4,9 @@ ghost use Rattle.std.specs.List.{flat_map};
 ghost use Rattle.tp_words.specs.Parts.{shown};
 ghost use Rattle.tp_words.specs.Each.{each_read};
 ghost use Rattle.tp_words.specs.Numbers.{number_of};
-ghost use Rattle.tp_script.specs.Reading.{Gives};
+ghost use Rattle.tp_script.specs.EventReaders.{Gives};
 ghost use Rattle.tp_log.specs.Records.{turns_words};
-ghost use Rattle.tp_log.specs.Reading.{turns_of, plan_with, plan_of, move_with, move_of};
+ghost use Rattle.tp_log.specs.RecordReaders.{turns_of, plan_with, plan_of, move_with, move_of};
 
 use std::alloc::Global;
 use tp_base::{Items, Memory, Name, Tick};
@@ -43,7 +43,7 @@ fn read_turns(alloc: Global, words: &[&[u8]]) -> Result<(Items<Tick>, Items<Name
     Ok((points, acts))
 }
 
-#[tactic(auto, unfolding(crate::specs::Reading::plan_with))]
+#[tactic(auto, unfolding(crate::specs::RecordReaders::plan_with))]
 fn read_plan_parts(
     alloc: Global,
     sheet: &[u8],
@@ -71,7 +71,7 @@ fn read_plan_parts(
     })
 }
 
-#[tactic(auto, unfolding(crate::specs::Reading::plan_of))]
+#[tactic(auto, unfolding(crate::specs::RecordReaders::plan_of))]
 pub fn read_plan(alloc: Global, words: &[&[u8]]) -> Result<Record, LineFault>
     requires { length words.now + 1 < 2 ^ 32 }
     ensures { Gives result (plan_of (shown words.now)) }
@@ -96,7 +96,7 @@ fn read_points(alloc: Global, words: &[&[u8]]) -> Result<Items<Tick>, LineFault>
     Ok(points)
 }
 
-#[tactic(auto, unfolding(crate::specs::Reading::move_with))]
+#[tactic(auto, unfolding(crate::specs::RecordReaders::move_with))]
 fn read_move_parts(alloc: Global, sheet: &[u8], points: &[&[u8]]) -> Result<Record, LineFault>
     requires { length points.now + 1 < 2 ^ 32 }
     ensures { Gives result (move_with sheet.now (shown points.now)) }
@@ -108,7 +108,7 @@ fn read_move_parts(alloc: Global, sheet: &[u8], points: &[&[u8]]) -> Result<Reco
     Ok(Record::Move { sheet, points })
 }
 
-#[tactic(auto, unfolding(crate::specs::Reading::move_of))]
+#[tactic(auto, unfolding(crate::specs::RecordReaders::move_of))]
 pub fn read_move(alloc: Global, words: &[&[u8]]) -> Result<Record, LineFault>
     requires { length words.now + 1 < 2 ^ 32 }
     ensures { Gives result (move_of (shown words.now)) }

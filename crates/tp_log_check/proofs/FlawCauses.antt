@@ -1,10 +1,10 @@
 -- A flaw tells why the turn of the event that is under way is off or stops.
 use Rattle.std.proofs.Common.{◌≡◌, List, Option, Some, None, sym, subst}
 use Rattle.std.specs.Prelude.{IfSome, IsSome, MatchOption}
-use Rattle.tp_entries.specs.declared.pending.Pending.{Pending}
+use Rattle.tp_log_check.specs.declared.pending.Pending.{Pending}
 use Rattle.tp_log.specs.declared.item.Item.{Item}
-use Rattle.tp_told.specs.declared.stop.Stop.{Stop}
-use Rattle.tp_log_check.specs.Checking.{CheckerValue, underway}
+use Rattle.tp_log_planner.specs.declared.stop.Stop.{Stop}
+use Rattle.tp_log_check.specs.CheckerState.{CheckerValue, underway}
 use Rattle.tp_log_check.specs.Causes.{AreItemsOf, HasCause, HasReasonUnder, IsDueOrStops, flaw_at}
 use Rattle.tp_log_check.specs.declared.flaw.Flaw.{Flaw}
 use Rattle.tp_log_check.specs.declared.flaw.Flaw.TheVariants.{Memory, Text, Due, Illegal, NotLeast, Tree}

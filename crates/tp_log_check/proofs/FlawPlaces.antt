@@ -8,12 +8,12 @@ use Rattle.std.proofs.lemmas.List.Elements.{All-append, All-cons, All-from_recur
 use Rattle.tp_bounds.specs.declared.tree.BoundTree.{BoundTree}
 use Rattle.tp_bounds.specs.declared.tree.Node.{Node as ANode}
 use Rattle.tp_bounds.specs.declared.tree.TreeRow.{TreeRow}
-use Rattle.tp_entries.specs.Gathered.{ArePlain, IsPending, IsSame, lines_of}
-use Rattle.tp_entries.specs.Gathered as entries
-use Rattle.tp_entries.specs.Heights.{heights}
-use Rattle.tp_entries.specs.declared.counts.Counts.{Counts}
-use Rattle.tp_entries.specs.declared.pending.Pending.{Pending}
-use Rattle.tp_log.specs.Gathering.{closed, item_lines, log_lines, next_of}
+use Rattle.tp_log_check.specs.Gathered.{ArePlain, IsPending, IsSame, lines_of}
+use Rattle.tp_log_check.specs.Gathered as entries
+use Rattle.tp_log_check.specs.Heights.{heights}
+use Rattle.tp_log_check.specs.declared.counts.Counts.{Counts}
+use Rattle.tp_log_check.specs.declared.pending.Pending.{Pending}
+use Rattle.tp_log.specs.GatheredItems.{closed, item_lines, log_lines, next_of}
 use Rattle.tp_log.specs.LogLines.{AreInOrder, IsLogLine, is_event, log_line_text}
 use Rattle.tp_log.specs.Logs.{is_echo}
 use Rattle.tp_log.specs.declared.item.Item.{Item}
@@ -24,14 +24,14 @@ use Rattle.tp_log.proofs.BoundLines.{one_log_line}
 use Rattle.tp_log.proofs.GatherFacts.{closed-lines, closed_log}
 use Rattle.tp_log.proofs.Items.{in_order, log_known, node_lines, row_lines}
 use Rattle.tp_machine.specs.declared.machine.Machine.{Machine}
-use Rattle.tp_told.specs.declared.stop.Stop.{Stop}
-use Rattle.tp_turn.specs.States.{SessionState}
+use Rattle.tp_log_planner.specs.declared.stop.Stop.{Stop}
+use Rattle.tp_event_rules.specs.States.{SessionState}
 use Rattle.tp_log_check.specs.Causes.{flaw_at}
-use Rattle.tp_log_check.specs.Checking.{CheckerValue, HasRead, HasTaken, Underway, items_of, underway}
+use Rattle.tp_log_check.specs.CheckerState.{CheckerValue, HasRead, HasTaken, Underway, items_of, underway}
 use Rattle.tp_log_check.specs.FlawLines.{IsOffOr, LiesAt, LiesBehind, LiesInLast}
 use Rattle.tp_log_check.specs.declared.flaw.Flaw.{Flaw}
 use Rattle.tp_log_check.specs.declared.flaw.Flaw.TheVariants.{Memory, Text, Due, Illegal, NotLeast, Tree as TreeFlaw}
-use Rattle.tp_log_check.proofs.Reading.{log-more, sections-log}
+use Rattle.tp_log_check.proofs.ReadSoFar.{log-more, sections-log}
 
 -- ---- lines that are no event's
 

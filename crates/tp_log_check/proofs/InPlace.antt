@@ -4,31 +4,31 @@ use Rattle.std.proofs.Common.{◌≡◌, Bool, true, false, cond, List, [], ◌�
 use Rattle.std.specs.Prelude.{IsFalse, if◌then◌else◌}
 use Rattle.std.proofs.lemmas.List.{length-append}
 use Rattle.std.proofs.lemmas.List.Elements.{All-cons, All-head, All-nil, All-tail}
-use Rattle.tp_entries.specs.Gathered.{ArePlain}
+use Rattle.tp_log_check.specs.Gathered.{ArePlain}
 use Rattle.tp_log.specs.Logs.{is_echo}
 use Rattle.tp_log.specs.declared.item.Item.{Item}
 use Rattle.tp_log.specs.declared.item.Item.TheVariants.{Event, Note, Tree}
-use Rattle.tp_log_runs.proofs.AlongAsks.{IsAhead}
-use Rattle.tp_log_runs.proofs.Asides.{AreOther, IsOther}
-use Rattle.tp_log_runs.proofs.Places.{IsParted, free-moves, is_plan_reply, shown-is, shown_by, tells-reply}
-use Rattle.tp_log_runs.specs.Accepting.{bound_claims}
+use Rattle.tp_log_laws.proofs.AlongAsks.{IsAhead}
+use Rattle.tp_log_laws.proofs.Asides.{AreOther, IsOther}
+use Rattle.tp_log_laws.proofs.Places.{IsParted, free-moves, is_plan_reply, shown-is, shown_by, tells-reply}
+use Rattle.tp_log_laws.specs.AcceptedEntries.{bound_claims}
 use Rattle.tp_machine.specs.declared.machine.Machine.{Machine}
-use Rattle.tp_runs.specs.Proved.{records_in}
-use Rattle.tp_runs.specs.Runs.{is_move, items_with}
+use Rattle.tp_run_laws.specs.Proved.{records_in}
+use Rattle.tp_run_laws.specs.Runs.{is_move, items_with}
 use Rattle.tp_schedule.specs.Answers.{kept_of}
 use Rattle.tp_schedule.specs.Plans.{plan_of, without}
-use Rattle.tp_schedule.specs.Planning.{IsAnswer}
+use Rattle.tp_schedule.specs.PlannerAnswers.{IsAnswer}
 use Rattle.tp_schedule.specs.declared.parts.Ask.{Ask}
 use Rattle.tp_schedule.specs.declared.parts.Plan.{Plan}
 use Rattle.tp_schedule.specs.declared.parts.Reply.{Reply}
 use Rattle.tp_schedule.specs.declared.parts.Reply.TheVariants.{Planned, Never, Spent}
 use Rattle.tp_schedule.specs.declared.records.Record.{Record}
 use Rattle.tp_schedule.specs.declared.records.Record.TheVariants.{Move}
-use Rattle.tp_told.specs.Telling.{IsShown, Tells, ToldValue, ahead, behind_asides, is_other, notes}
-use Rattle.tp_told.proofs.ToldFacts.{behind-twice}
-use Rattle.tp_turn.specs.Answering.{moves, told_of_planned, told_of_reply}
-use Rattle.tp_turn.specs.Logs.{TakesTree, spent_on_trust}
-use Rattle.tp_log_check.specs.Judging.{trees_in}
+use Rattle.tp_log_planner.specs.ToldAnswers.{IsShown, Tells, ToldValue, ahead, behind_asides, is_other, notes}
+use Rattle.tp_log_planner.proofs.ToldFacts.{behind-twice}
+use Rattle.tp_event_rules.specs.AnswerRecords.{moves, told_of_planned, told_of_reply}
+use Rattle.tp_event_rules.specs.Logs.{TakesTree, spent_on_trust}
+use Rattle.tp_log_check.specs.EventEntry.{trees_in}
 use Rattle.tp_log_check.proofs.Judged.{records-with}
 use Rattle.tp_log_check.proofs.TakenTrees.{trees-told}
 

@@ -5,20 +5,20 @@ use Rattle.std.specs.Prelude.{IsNone, MatchOption}
 use Rattle.tp_bounds.specs.declared.tree.BoundTree.{BoundTree}
 use Rattle.tp_log.specs.declared.item.Item.{Item}
 use Rattle.tp_log.specs.declared.item.Item.TheVariants.{Event, Tree}
-use Rattle.tp_log_runs.specs.Following.{LawfulTurnsAccepted, NeverStops, TurnsTell, told_steps}
+use Rattle.tp_log_laws.specs.EntryTurns.{LawfulTurnsAccepted, NeverStops, TurnsTell, told_steps}
 use Rattle.tp_machine.specs.declared.machine.Machine.{Machine}
-use Rattle.tp_runs.specs.Proved.{records_in}
-use Rattle.tp_runs.specs.Runs.{is_of_plan, items_with, trees_behind}
-use Rattle.tp_runs.specs.Wholes.{IsWhole}
+use Rattle.tp_run_laws.specs.Proved.{records_in}
+use Rattle.tp_run_laws.specs.Runs.{is_of_plan, items_with, trees_behind}
+use Rattle.tp_run_laws.specs.Wholes.{IsWhole}
 use Rattle.tp_schedule.specs.declared.records.Record.{Record}
 use Rattle.tp_script.specs.declared.event.Event.{Event as AnEvent}
-use Rattle.tp_told.specs.Telling.{ToldValue, ahead}
-use Rattle.tp_turn.specs.Keeping.{live_part}
-use Rattle.tp_turn.specs.Ready.{CanTakeEvents}
-use Rattle.tp_turn.specs.States.{SessionState}
-use Rattle.tp_turning.specs.Events.{LiveTurn}
-use Rattle.tp_turning.specs.Stops.{LiveStop}
-use Rattle.tp_log_check.specs.Judging.{trees_in}
+use Rattle.tp_log_planner.specs.ToldAnswers.{ToldValue, ahead}
+use Rattle.tp_event_rules.specs.StateInvariants.{live_part}
+use Rattle.tp_event_rules.specs.Ready.{CanTakeEvents}
+use Rattle.tp_event_rules.specs.States.{SessionState}
+use Rattle.tp_event_turn.specs.Events.{LiveTurn}
+use Rattle.tp_event_turn.specs.Stops.{LiveStop}
+use Rattle.tp_log_check.specs.EventEntry.{trees_in}
 use Rattle.tp_log_check.specs.Lawful.{HasNoTurn, HasTurn, LeadsTo}
 use Rattle.tp_log_check.proofs.TakenTrees.{trees-behind}
 

@@ -3,14 +3,14 @@ use Rattle.std.proofs.Common.{◌≡◌, ℕ, zero, suc, ◌+◌, ◌-◌, ◌<�
 use Rattle.std.proofs.lemmas.Bool.Decides.{nat_tests}
 use Rattle.std.proofs.Math.Seq.{drop-append_seam, take-append_seam}
 use Rattle.std.proofs.lemmas.List.{append-nil, append_cancel_left, length-append, length-drop, length-take-le, take-append-drop}
-use Rattle.tp_log.specs.Gathering.{is_tree}
+use Rattle.tp_log.specs.GatheredItems.{is_tree}
 use Rattle.tp_log.specs.declared.item.Item.{Item}
 use Rattle.tp_log.specs.declared.item.Item.TheVariants.{Event, Note, Tree}
-use Rattle.tp_runs.specs.Proved.{records_in}
+use Rattle.tp_run_laws.specs.Proved.{records_in}
 use Rattle.tp_schedule.specs.declared.records.Record.{Record}
-use Rattle.tp_told.specs.Telling.{ToldValue, ahead, behind_asides}
-use Rattle.tp_log_check.specs.Judging.{trees_in}
-use Rattle.tp_log_check.specs.Partings.{IsFirstTree, IsOffAt, IsOther, PartsAt, items_before}
+use Rattle.tp_log_planner.specs.ToldAnswers.{ToldValue, ahead, behind_asides}
+use Rattle.tp_log_check.specs.EventEntry.{trees_in}
+use Rattle.tp_log_check.specs.FirstDifference.{IsFirstTree, IsOffAt, IsOther, PartsAt, items_before}
 
 -- ---- records and trees of items one after another
 pub records-append : (xs ys : List Item) → records_in (xs ++ ys) ≡ records_in xs ++ records_in ys

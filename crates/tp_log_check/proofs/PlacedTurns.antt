@@ -7,24 +7,24 @@ use Rattle.tp_log.specs.Logs.{is_echo}
 use Rattle.tp_log.specs.declared.item.Item.{Item}
 use Rattle.std.specs.Option.{MatchOption}
 use Rattle.tp_bounds.specs.declared.tree.BoundTree.{BoundTree}
-use Rattle.tp_entries.specs.Gathered.{ArePlain}
+use Rattle.tp_log_check.specs.Gathered.{ArePlain}
 use Rattle.tp_jobs.specs.Backlogs.{tray_of}
 use Rattle.tp_jobs.specs.declared.parts.WaitingCopy.{WaitingCopy}
-use Rattle.tp_log_runs.specs.Following.{told_steps}
-use Rattle.tp_log_runs.proofs.AlongAsks.{IsAhead, over-full, parted-by}
-use Rattle.tp_log_runs.proofs.Asides.{other-after, other-clock, other-outage}
-use Rattle.tp_log_runs.proofs.Names.{live-through}
-use Rattle.tp_log_runs.proofs.OneAnswer.{AnswersFirst, Ends, InMidst, here-after, mids-after, parted, stays-behind, told_from, whole-told}
-use Rattle.tp_log_runs.proofs.Places.{IsOver, all-moves, is_plan_reply, none-of_plan, of_plan, over-none, reply-over, skip}
-use Rattle.tp_log_runs.proofs.Still.{StaysSettled}
+use Rattle.tp_log_laws.specs.EntryTurns.{told_steps}
+use Rattle.tp_log_laws.proofs.AlongAsks.{IsAhead, over-full, parted-by}
+use Rattle.tp_log_laws.proofs.Asides.{other-after, other-clock, other-outage}
+use Rattle.tp_log_laws.proofs.Names.{live-through}
+use Rattle.tp_log_laws.proofs.OneAnswer.{AnswersFirst, Ends, InMidst, here-after, mids-after, parted, stays-behind, told_from, whole-told}
+use Rattle.tp_log_laws.proofs.Places.{IsOver, all-moves, is_plan_reply, none-of_plan, of_plan, over-none, reply-over, skip}
+use Rattle.tp_log_laws.proofs.Still.{StaysSettled}
 use Rattle.tp_machine.specs.declared.machine.Machine.{Machine}
-use Rattle.tp_outages.proofs.OutageFalls.{falls-outage}
-use Rattle.tp_outages.proofs.OutagesKeep.{any-sheets, any_outset}
-use Rattle.tp_outages.proofs.Starts.{starts}
-use Rattle.tp_outages.specs.Through.{KeepsThrough}
-use Rattle.tp_runs.specs.Proved.{records_in}
-use Rattle.tp_runs.specs.Runs.{items_with}
-use Rattle.tp_schedule.specs.Planning.Deed.{replied, settled}
+use Rattle.tp_outage_laws.proofs.OutageFalls.{falls-outage}
+use Rattle.tp_outage_laws.proofs.OutagesKeep.{any-sheets, any_outset}
+use Rattle.tp_outage_laws.proofs.Starts.{starts}
+use Rattle.tp_outage_laws.specs.Through.{KeepsThrough}
+use Rattle.tp_run_laws.specs.Proved.{records_in}
+use Rattle.tp_run_laws.specs.Runs.{items_with}
+use Rattle.tp_schedule.specs.PlannerAnswers.Deed.{replied, settled}
 use Rattle.tp_schedule.specs.declared.parts.Plan.{Plan}
 use Rattle.tp_schedule.specs.declared.parts.Reply.{Reply}
 use Rattle.tp_schedule.specs.declared.records.Cause.{Cause}
@@ -32,24 +32,24 @@ use Rattle.tp_schedule.specs.declared.records.Record.{Record}
 use Rattle.tp_schedule.specs.declared.records.Record.TheVariants.{FullUp, Refused}
 use Rattle.tp_script.specs.declared.event.Event.{Event}
 use Rattle.tp_script.specs.declared.event.Event.TheVariants.{Bad, Job as NewJob, Clock, Jam, Off, On, Refill}
-use Rattle.tp_told.specs.Telling.{TakesOn, ToldValue, ahead, behind_asides}
-use Rattle.tp_turn.specs.Answering.{Answer, moves, told_of_reply}
-use Rattle.tp_turn.specs.Asking.{AsksInTurn, ask_waiting, is_full, is_passed_over, passed_after, state_after_reply}
-use Rattle.tp_turn.specs.Clock.{clock_move, clock_records}
-use Rattle.tp_turn.specs.Keeping.{live_part}
-use Rattle.tp_turn.specs.Labels.{label}
-use Rattle.tp_turn.specs.Logs.{spent_on_trust}
-use Rattle.tp_turn.specs.Laws.{IsNoClock}
-use Rattle.tp_turn.specs.Loops.{after_answers, after_one, after_reply}
-use Rattle.tp_turn.specs.Outages.{outage}
-use Rattle.tp_turn.specs.Planners.{AnswersInTurn, GoesOut, IsRight}
-use Rattle.tp_turn.specs.Ready.{CanTakeEvents}
-use Rattle.tp_turn.specs.Refusals.{clock_refusal, refusal}
-use Rattle.tp_turn.specs.States.{SessionState}
-use Rattle.tp_turn.specs.Turns.{Accepts, Begins, Turn}
-use Rattle.tp_turn.proofs.AskSteps.{AsksFirst, TellsFull}
-use Rattle.tp_turning.specs.Events.{LiveTurn, MovesClock}
-use Rattle.tp_log_check.specs.Judging.{trees_in}
+use Rattle.tp_log_planner.specs.ToldAnswers.{TakesOn, ToldValue, ahead, behind_asides}
+use Rattle.tp_event_rules.specs.AnswerRecords.{Answer, moves, told_of_reply}
+use Rattle.tp_event_rules.specs.AskPhase.{AsksInTurn, ask_waiting, is_full, is_passed_over, passed_after, state_after_reply}
+use Rattle.tp_event_rules.specs.Clock.{clock_move, clock_records}
+use Rattle.tp_event_rules.specs.StateInvariants.{live_part}
+use Rattle.tp_event_rules.specs.Labels.{label}
+use Rattle.tp_event_rules.specs.Logs.{spent_on_trust}
+use Rattle.tp_event_rules.specs.Laws.{IsNoClock}
+use Rattle.tp_event_rules.specs.Loops.{after_answers, after_one, after_reply}
+use Rattle.tp_event_rules.specs.Outages.{outage}
+use Rattle.tp_event_rules.specs.Planners.{AnswersInTurn, GoesOut, IsRight}
+use Rattle.tp_event_rules.specs.Ready.{CanTakeEvents}
+use Rattle.tp_event_rules.specs.Refusals.{clock_refusal, refusal}
+use Rattle.tp_event_rules.specs.States.{SessionState}
+use Rattle.tp_event_rules.specs.Turns.{Accepts, Begins, Turn}
+use Rattle.tp_event_rules.proofs.AskSteps.{AsksFirst, TellsFull}
+use Rattle.tp_event_turn.specs.Events.{LiveTurn, MovesClock}
+use Rattle.tp_log_check.specs.EventEntry.{trees_in}
 use Rattle.tp_log_check.specs.Lawful.{AreInPlaces}
 use Rattle.tp_log_check.proofs.InPlace.{AreOf, answer-in_place, behind_others, moves-in_place, none-left, others-skip, same-items, same-rest}
 use Rattle.tp_log_check.proofs.Judged.{records-with}

@@ -4,24 +4,24 @@ use Rattle.std.specs.Prelude.{IsNone}
 use Rattle.std.proofs.lemmas.List.{append-nil, map-append}
 use Rattle.std.proofs.lemmas.List.Concat.{flat_map-append}
 use Rattle.std.proofs.lemmas.List.Elements.{All-append, All-from_recursion}
-use Rattle.tp_entries.specs.Gathered.{ArePlain, IsPending, lines_of}
-use Rattle.tp_entries.specs.Gathered as entries
-use Rattle.tp_entries.specs.declared.counts.Counts.{Counts}
-use Rattle.tp_entries.specs.declared.pending.Pending.{Pending}
-use Rattle.tp_entries.proofs.PendingFacts.{plain_closed}
-use Rattle.tp_log.specs.Gathering.{closed, item_lines, lines_with, log_lines, next_of}
+use Rattle.tp_log_check.specs.Gathered.{ArePlain, IsPending, lines_of}
+use Rattle.tp_log_check.specs.Gathered as entries
+use Rattle.tp_log_check.specs.declared.counts.Counts.{Counts}
+use Rattle.tp_log_check.specs.declared.pending.Pending.{Pending}
+use Rattle.tp_log_check.proofs.PendingFacts.{plain_closed}
+use Rattle.tp_log.specs.GatheredItems.{closed, item_lines, lines_with, log_lines, next_of}
 use Rattle.tp_log.specs.Logs.{IsLog}
 use Rattle.tp_log.specs.declared.log_line.LogLine.{LogLine}
 use Rattle.tp_log.proofs.GatherFacts.{closed-lines, closed_log}
-use Rattle.tp_log_runs.specs.Accepting.{AreAccepted, IsAccepted}
-use Rattle.tp_log_runs.proofs.Lawful.{one_more}
+use Rattle.tp_log_laws.specs.AcceptedEntries.{AreAccepted, IsAccepted}
+use Rattle.tp_log_laws.proofs.Lawful.{one_more}
 use Rattle.tp_machine.specs.declared.machine.Machine.{Machine}
-use Rattle.tp_turn.specs.Ready.{CanTakeEvents, KeepsStock, last_copy}
-use Rattle.tp_turn.specs.States.{SessionState, empty_state}
-use Rattle.tp_turn.proofs.StockKept.{stock-more}
+use Rattle.tp_event_rules.specs.Ready.{CanTakeEvents, KeepsStock, last_copy}
+use Rattle.tp_event_rules.specs.States.{SessionState, empty_state}
+use Rattle.tp_event_rules.proofs.StockKept.{stock-more}
 use Rattle.tp_log_check.specs.Lawful.{AreInPlaces, LeadsTo}
-use Rattle.tp_log_check.specs.Checking.{CanGoOn, CheckerValue, HasTaken, LeadOn, Section, entries_of, items_of, section_items, underway}
-use Rattle.tp_log_check.specs.Judging.{entry}
+use Rattle.tp_log_check.specs.CheckerState.{CanGoOn, CheckerValue, HasTaken, LeadOn, Section, entries_of, items_of, section_items, underway}
+use Rattle.tp_log_check.specs.EventEntry.{entry}
 use Rattle.tp_log_check.specs.declared.flaw.Flaw.{Flaw}
 
 pub is-none : {A : Type 0} (o : Option A) → o ≡ None → IsNone o

@@ -5,20 +5,20 @@ use Rattle.tp_bounds.specs.declared.tree.BoundTree.{BoundTree}
 use Rattle.tp_log.specs.declared.item.Item.{Item}
 use Rattle.tp_log.specs.declared.item.Item.TheVariants.{Event, Note, Tree}
 use Rattle.tp_machine.specs.declared.machine.Machine.{Machine}
-use Rattle.tp_schedule.specs.Planning.{Deed}
-use Rattle.tp_schedule.specs.Planning.Deed.{replied, settled}
+use Rattle.tp_schedule.specs.PlannerAnswers.{Deed}
+use Rattle.tp_schedule.specs.PlannerAnswers.Deed.{replied, settled}
 use Rattle.tp_schedule.specs.declared.parts.Ask.{Ask}
 use Rattle.tp_schedule.specs.declared.parts.Plan.{Plan}
 use Rattle.tp_schedule.specs.declared.parts.Reply.{Reply}
 use Rattle.tp_schedule.specs.declared.parts.Reply.TheVariants.{Planned, Never, Spent}
 use Rattle.tp_schedule.specs.declared.records.Record.{Record}
 use Rattle.tp_script.specs.declared.event.Event.{Event as AnEvent}
-use Rattle.tp_turn.specs.Answering.{moves, told_of_reply}
-use Rattle.tp_turn.specs.Logs.{TakesTree, TakesTrees}
-use Rattle.tp_turn.specs.States.{SessionState}
-use Rattle.tp_log_runs.specs.Accepting.{HasAcceptedTurn, bound_claims}
-use Rattle.tp_told.specs.Telling.{TakesOn, Tells, ToldValue, ahead, behind_asides, is_other, notes}
-use Rattle.tp_log_check.specs.Judging.{trees_in}
+use Rattle.tp_event_rules.specs.AnswerRecords.{moves, told_of_reply}
+use Rattle.tp_event_rules.specs.Logs.{TakesTree, TakesTrees}
+use Rattle.tp_event_rules.specs.States.{SessionState}
+use Rattle.tp_log_laws.specs.AcceptedEntries.{HasAcceptedTurn, bound_claims}
+use Rattle.tp_log_planner.specs.ToldAnswers.{TakesOn, Tells, ToldValue, ahead, behind_asides, is_other, notes}
+use Rattle.tp_log_check.specs.EventEntry.{trees_in}
 
 -- no tree is an aside, nor a record
 behind-note : (told : Record) (items : List Item) (b : Bool) → trees_in (behind_asides items) ≡ trees_in items → trees_in (if b then behind_asides items else (Note told ∷ items)) ≡ trees_in items

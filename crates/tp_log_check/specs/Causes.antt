@@ -1,26 +1,26 @@
 -- Why a flaw is told of the event that is under way, and on which line.
 use Rattle.std.specs.Prelude.{◌≡◌, ℕ, ◌+◌, min, nat_lt, ◌⊎◌, List, [], ◌∷◌, length, take, drop, Option, Some, None, if◌then◌else◌}
 use Rattle.tp_bounds.specs.declared.tree.BoundTree.{BoundTree}
-use Rattle.tp_entries.specs.Heights.{heights}
-use Rattle.tp_log.specs.Gathering.{closed}
+use Rattle.tp_log_check.specs.Heights.{heights}
+use Rattle.tp_log.specs.GatheredItems.{closed}
 use Rattle.tp_log.specs.declared.item.Item.{Item}
 use Rattle.tp_log.specs.declared.item.Item.TheVariants.{Event, Tree as TreeItem}
-use Rattle.tp_log_runs.specs.Following.{told_steps}
+use Rattle.tp_log_laws.specs.EntryTurns.{told_steps}
 use Rattle.tp_machine.specs.declared.machine.Machine.{Machine}
-use Rattle.tp_runs.specs.Proved.{records_in}
+use Rattle.tp_run_laws.specs.Proved.{records_in}
 use Rattle.tp_schedule.specs.declared.records.Record.{Record}
 use Rattle.tp_script.specs.declared.event.Event.{Event as AnEvent}
-use Rattle.tp_told.specs.Telling.{ToldValue}
-use Rattle.tp_told.specs.declared.stop.Reason.{Reason}
-use Rattle.tp_told.specs.declared.stop.Reason.TheVariants as reason
-use Rattle.tp_told.specs.declared.stop.Stop.{Stop}
-use Rattle.tp_trees.specs.declared.claim.TreeFlaw.{TreeFlaw}
-use Rattle.tp_trees.specs.declared.claim.TreeFlaw.TheVariants as tree
-use Rattle.tp_turn.specs.States.{SessionState}
-use Rattle.tp_turning.specs.Events.{LiveTurn}
-use Rattle.tp_turning.specs.Stops.{LiveStop}
-use Rattle.tp_log_check.specs.Checking.{CheckerValue, Underway}
-use Rattle.tp_log_check.specs.Partings.{IsOffAt, PartsAt, items_before}
+use Rattle.tp_log_planner.specs.ToldAnswers.{ToldValue}
+use Rattle.tp_log_planner.specs.declared.stop.Reason.{Reason}
+use Rattle.tp_log_planner.specs.declared.stop.Reason.TheVariants as reason
+use Rattle.tp_log_planner.specs.declared.stop.Stop.{Stop}
+use Rattle.tp_bound_laws.specs.declared.claim.TreeFlaw.{TreeFlaw}
+use Rattle.tp_bound_laws.specs.declared.claim.TreeFlaw.TheVariants as tree
+use Rattle.tp_event_rules.specs.States.{SessionState}
+use Rattle.tp_event_turn.specs.Events.{LiveTurn}
+use Rattle.tp_event_turn.specs.Stops.{LiveStop}
+use Rattle.tp_log_check.specs.CheckerState.{CheckerValue, Underway}
+use Rattle.tp_log_check.specs.FirstDifference.{IsOffAt, PartsAt, items_before}
 use Rattle.tp_log_check.specs.declared.flaw.Flaw.{Flaw}
 use Rattle.tp_log_check.specs.declared.flaw.Flaw.TheVariants.{Memory, Text, Due, Illegal, NotLeast, Tree}
 

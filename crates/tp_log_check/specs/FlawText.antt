@@ -1,8 +1,8 @@
 -- A flaw as it is told.
 use Rattle.std.specs.Prelude.{ℕ, List, ◌++◌, codes}
 use Rattle.std.specs.Fmt.{decimal, signed_decimal}
-use Rattle.tp_trees.specs.declared.claim.TreeFlaw.{TreeFlaw}
-use Rattle.tp_trees.specs.declared.claim.TreeFlaw.TheVariants as tree
+use Rattle.tp_bound_laws.specs.declared.claim.TreeFlaw.{TreeFlaw}
+use Rattle.tp_bound_laws.specs.declared.claim.TreeFlaw.TheVariants as tree
 use Rattle.tp_log_check.specs.declared.flaw.Flaw.{Flaw}
 use Rattle.tp_log_check.specs.declared.flaw.Flaw.TheVariants.{Memory, Text, Due, Illegal, NotLeast, Tree}
 

@@ -1,22 +1,22 @@
 -- Which lines are those of a lawful log, and which turns the items of an event leave open.
 use Rattle.std.specs.Prelude.{◌≡◌, true, false, List, [], ◌∷◌, map, IsTrue}
 use Rattle.tp_bounds.specs.declared.tree.BoundTree.{BoundTree}
-use Rattle.tp_log.specs.Gathering.{log_lines}
+use Rattle.tp_log.specs.GatheredItems.{log_lines}
 use Rattle.tp_log.specs.LogLines.{is_event}
 use Rattle.tp_log.specs.Logs.{IsLog}
 use Rattle.tp_log.specs.declared.item.Item.{Item}
 use Rattle.tp_log.specs.declared.item.Item.TheVariants.{Event}
 use Rattle.tp_log.specs.declared.log_line.LogLine.{LogLine}
-use Rattle.tp_log_runs.specs.Accepting.{AcceptedTurn, bound_claims}
+use Rattle.tp_log_laws.specs.AcceptedEntries.{AcceptedTurn, bound_claims}
 use Rattle.tp_machine.specs.declared.machine.Machine.{Machine}
-use Rattle.tp_runs.specs.Proved.{records_in}
-use Rattle.tp_runs.specs.Runs.{items_in, items_of, items_with}
-use Rattle.tp_runs.specs.Wholes.{IsWhole}
+use Rattle.tp_run_laws.specs.Proved.{records_in}
+use Rattle.tp_run_laws.specs.Runs.{items_in, items_of, items_with}
+use Rattle.tp_run_laws.specs.Wholes.{IsWhole}
 use Rattle.tp_script.specs.declared.event.Event.{Event as AnEvent}
-use Rattle.tp_turn.specs.Keeping.{live_part}
-use Rattle.tp_turn.specs.Logs.{Entry, IsLawful, spent_on_trust}
-use Rattle.tp_turn.specs.States.{SessionState}
-use Rattle.tp_log_check.specs.Judging.{trees_in}
+use Rattle.tp_event_rules.specs.StateInvariants.{live_part}
+use Rattle.tp_event_rules.specs.Logs.{Entry, IsLawful, spent_on_trust}
+use Rattle.tp_event_rules.specs.States.{SessionState}
+use Rattle.tp_log_check.specs.EventEntry.{trees_in}
 
 -- the lines are those of a log that is lawful with bounds, but for the causes of its budgets, each tree in its place
 pub record IsLawfulLog (machine : Machine) (told : List LogLine) : Type 0 where

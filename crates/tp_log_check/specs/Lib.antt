@@ -1,7 +1,14 @@
+pub mod LogCounts
+pub mod Heights
+pub mod Gathered
 pub mod FlawText
-pub mod Judging
+pub mod EventEntry
 pub mod Lawful
 pub mod FlawLines
-pub mod Checking
-pub mod Partings
+pub mod CheckerState
+pub mod FirstDifference
 pub mod Causes
+pub mod Summary
+pub mod Sizes
+pub mod TakenLines
+pub mod Ends

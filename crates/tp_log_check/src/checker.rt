@@ -3,7 +3,7 @@
 ghost use Rattle.std.specs.Prelude.{◌≡◌, ◌≢◌, ◌+◌, ◌<◌, ◌^◌, ◌++◌, ◌∷◌, [], List, Some, None, Err, false, OnOk, OnErr, IfOk, IfErr, IfSome, IsSome, length};
 ghost use Rattle.std.specs.Bool.{MatchBool};
 ghost use Rattle.std.specs.List.{All};
-ghost use Rattle.tp_entries.specs.Heights.{heights};
+ghost use Rattle.tp_log_check.specs.Heights.{heights};
 ghost use Rattle.tp_log.specs.LogLines.{IsLogLine, is_event, log_line_text};
 ghost use Rattle.tp_log.specs.declared.log_line.LogLine.{LogLine};
 ghost use Rattle.tp_log.specs.declared.log_line.LogLine.TheVariants.{Event as EventLine};
@@ -13,19 +13,19 @@ ghost use Rattle.tp_log_check.specs.declared.flaw.Flaw.{Flaw};
 ghost use Rattle.tp_log_check.specs.declared.flaw.Flaw.TheVariants.{Memory as WantsMemory};
 ghost use Rattle.tp_script.specs.Printed.{IsEchoed};
 
+use crate::event_check::{look, look_off};
 use crate::flaw::Flaw;
-use crate::lines::flaw_of;
-use crate::looking::{look, look_off};
+use crate::flaw_lines::flaw_of;
+use crate::{Counts, Pending};
 use std::alloc::Global;
 use std::marker::Model;
 use tp_base::Memory;
-use tp_entries::{Counts, Pending};
+use tp_event_rules::LiveState;
+use tp_event_turn::empty_state_can_begin;
 use tp_log::{LogLine, read_log_line};
+use tp_log_planner::Stop;
 use tp_machine::Machine;
 use tp_script::{Event, LineFault};
-use tp_told::Stop;
-use tp_turn::LiveState;
-use tp_turning::empty_state_can_begin;
 
 /// Looks at a log with bounds line by line. It keeps the live part of the state after the events that were looked at, and what is told of
 /// the last event so far. What a budget says is taken on trust.
@@ -82,8 +82,8 @@ fn flaw_before(pending: &Pending, found: Option<Stop>) -> Option<Flaw>
 
 impl Model for LogChecker {
     ghost use Rattle.std.specs.Prelude.{option_map};
-    ghost use Rattle.tp_log_check.specs.Checking.{AreWithin, CanGoOn, CheckerValue, underway};
-    ghost use Rattle.tp_turn.specs.LiveStates.{seen};
+    ghost use Rattle.tp_log_check.specs.CheckerState.{AreWithin, CanGoOn, CheckerValue, underway};
+    ghost use Rattle.tp_event_rules.specs.LiveStates.{seen};
 
     ghost Value = { CheckerValue };
 
@@ -103,7 +103,7 @@ impl Model for LogChecker {
 
 impl LogChecker {
     ghost use Rattle.tp_log.specs.LogLines.{AreInOrder};
-    ghost use Rattle.tp_log_check.specs.Checking.{HasRead, HasTaken, IsAcceptedLog, events_in, most_events};
+    ghost use Rattle.tp_log_check.specs.CheckerState.{HasRead, HasTaken, IsAcceptedLog, events_in, most_events};
     ghost use Rattle.tp_log_check.specs.Lawful.{EndEvent, IsLawfulLog};
 
     /// Before the first line of a log of the machine.

@@ -2,7 +2,7 @@
 
 use std::fmt;
 use tp_base::Tick;
-use tp_trees::TreeFlaw;
+use tp_bound_laws::TreeFlaw;
 
 /// What is wrong with a log, and the line that tells it, counted from 1. Want of memory says nothing of the log.
 #[derive(Clone, Copy, PartialEq, Eq, Debug)]

@@ -1,13 +1,29 @@
-//! Whole logs looked at line by line: each record is the one that is due, each plan and each none is proved by its tree.
+//! Logs checked entry by entry, from a source to the line of counts: each record is the one that is due, and each plan and each none is proved by its tree.
 #![tactic(auto)]
 
+mod cause;
+mod checked;
 mod checker;
+mod counts;
+mod event_check;
+mod first_difference;
 mod flaw;
-mod judging;
-mod lines;
-mod looking;
-mod parting;
+mod flaw_lines;
+mod judgement;
+mod line_counts;
+mod log_source;
+mod next_entry;
+mod pending;
+mod quiet;
+mod record_equality;
+mod summary;
 
+pub use cause::Cause;
 pub use checker::LogChecker;
+pub use counts::Counts;
 pub use flaw::Flaw;
-pub use tp_entries::Counts;
+pub use line_counts::{height, heights};
+pub use log_source::{LOG_LIMITS, check_log};
+pub use pending::Pending;
+pub use record_equality::same_record;
+pub use summary::summary_line;

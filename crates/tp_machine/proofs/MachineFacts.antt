@@ -6,7 +6,7 @@ use Rattle.std.proofs.lemmas.Bool.Decides.{nat_tests}
 use Rattle.std.proofs.lemmas.Int.{ints}
 use Rattle.tp_base.specs.NameText.{is_between}
 use Rattle.std.proofs.lemmas.List.Elements.{All-contains}
-use Rattle.tp_machine.specs.Using.{action_at, tick_of}
+use Rattle.tp_machine.specs.ModuleUse.{action_at, tick_of}
 use Rattle.tp_machine.specs.Rules.{are_different, is_among, is_way, is_feeder_location, has_durations, has_holds, is_sound_hold, begins_within, is_never_empty, is_offset, do_holds_differ}
 use Rattle.tp_machine.specs.Machines.{IsMachine, IsLocation, IsOpenLocation, IsWay, IsSoundRule, IsOffset}
 use Rattle.tp_machine.specs.declared.parts.Action.{Action}

@@ -4,7 +4,7 @@ use Rattle.tp_base.specs.NameText.{is_name_text}
 use Rattle.tp_machine.specs.Limits.{longest, most_act_holds, most_actions, most_budget, most_locations, most_mode, most_modules, most_resources, most_stock, most_window}
 use Rattle.tp_machine.specs.Modes.{gap_at}
 use Rattle.tp_machine.specs.Rules.{do_names_rise, feeder_names}
-use Rattle.tp_machine.specs.Using.{action_at, begin_of, end_of}
+use Rattle.tp_machine.specs.ModuleUse.{action_at, begin_of, end_of}
 use Rattle.tp_machine.specs.declared.parts.Action.{Action}
 use Rattle.tp_machine.specs.declared.parts.HoldRule.{HoldRule}
 use Rattle.tp_machine.specs.declared.parts.LocId.{LocId}

@@ -6,7 +6,7 @@ ghost use Rattle.tp_machine.specs.Limits.{most_modules};
 use crate::parts::{ModId, Outs};
 
 impl Outs {
-    ghost use Rattle.tp_machine.specs.Using.{is_out, put_on, put_out};
+    ghost use Rattle.tp_machine.specs.ModuleUse.{is_out, put_on, put_out};
 
     /// Whether the module is out.
     pub fn contains(self, id: ModId) -> bool

@@ -23,7 +23,7 @@ use Rattle.tp_machine_text.specs.HoldRules.{anchor_of}
 use Rattle.tp_machine_text.specs.TheMachine.{place_in, amount_at, loc_of, feeders_of, resources_of, hold_of, action_of}
 use Rattle.tp_machine_text.specs.Printed.{is_location, is_of_resource, is_known, name_at, loc_names, feeder_members, resource_members, gaps_of, stocks_of, resource_names, anchor_text, kind_words, hold_data, action_data}
 use Rattle.tp_machine_text.proofs.AmountsBack.{HasAmount}
-use Rattle.tp_machine_text.proofs.Fitting.{knows}
+use Rattle.tp_machine_text.proofs.OwnNumbers.{knows}
 use Rattle.tp_machine_text.proofs.Seen.{values_of-items}
 
 -- ---- a name that stands at a place

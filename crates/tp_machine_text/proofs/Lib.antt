@@ -21,7 +21,7 @@ pub mod PutSeen
 pub mod NameBytes
 pub mod AmountsBack
 pub mod Built
-pub mod Fitting
+pub mod OwnNumbers
 pub mod Back
 pub mod Depth
 pub mod PrintedBack

@@ -14,7 +14,7 @@ use Rattle.tp_machine_text.specs.Printed.{is_location, is_known, resource_names}
 use Rattle.tp_machine.proofs.NameFacts.{name_tests}
 use Rattle.tp_machine_text.proofs.ActionFacts.{same_differ}
 use Rattle.tp_machine_text.proofs.Back.{rise_differ}
-use Rattle.tp_machine_text.proofs.Fitting.{trays_fit, purges_fit, feeders_fit, actions_fit}
+use Rattle.tp_machine_text.proofs.OwnNumbers.{trays_fit, purges_fit, feeders_fit, actions_fit}
 use Rattle.tp_machine_text.proofs.Seen.{list_all-map}
 
 -- the parts of a machine's tests

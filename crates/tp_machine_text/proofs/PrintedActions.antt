@@ -22,7 +22,7 @@ use Rattle.tp_machine_text.specs.ActionRules.{are_keys_among, is_named, is_of_mo
 use Rattle.tp_machine_text.specs.HoldRules.{is_hold, has_holds, begins_in_action, begins_all, is_filled, fills_all}
 use Rattle.tp_machine_text.specs.Printed.{is_location, is_of_resource, is_known, loc_names, anchor_text, hold_data, kind_words, action_data}
 use Rattle.tp_machine_text.proofs.Back.{anchor_back, at_known, holds_back}
-use Rattle.tp_machine_text.proofs.Fitting.{all_held, knows}
+use Rattle.tp_machine_text.proofs.OwnNumbers.{all_held, knows}
 use Rattle.tp_machine_text.proofs.HoldsFacts.{holds_differ}
 use Rattle.tp_machine_text.proofs.PrintedLocations.{among_back}
 use Rattle.tp_machine_text.proofs.Seen.{values_of-items}

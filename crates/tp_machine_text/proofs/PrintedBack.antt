@@ -16,7 +16,7 @@ use Rattle.tp_machine_text.proofs.AmountsBack.{HasAmount, amounts_found}
 use Rattle.tp_machine_text.proofs.Built.{gap_names, stock_names}
 use Rattle.tp_machine_text.proofs.Seen.{values_of-items}
 use Rattle.tp_machine_text.proofs.KeptFacts.{names_parts}
-use Rattle.tp_machine_text.proofs.Fitting.{trays_fit, purges_fit, feeders_fit, actions_fit}
+use Rattle.tp_machine_text.proofs.OwnNumbers.{trays_fit, purges_fit, feeders_fit, actions_fit}
 use Rattle.tp_machine_text.proofs.Back.{texts_back, locs_back, feeders_back, resources_back, resource_keys, rise_differ, actions_back}
 
 module _ (m : Machine) where

@@ -1,26 +1,26 @@
 //! Machine texts: TOML both ways.
 #![tactic(auto)]
 
-mod acting;
-mod actions;
-mod amounts;
-mod building;
-mod holds;
+mod action_rules;
+mod action_values;
+mod amount_rules;
+mod hold_rules;
 mod laws;
-mod locations;
-pub mod looking;
+mod location_rules;
+pub mod lookup;
 mod machine;
-mod making;
-mod numbers;
-mod printing;
+mod machine_printer;
+mod machine_reader;
+mod machine_table;
+mod number_rules;
 mod rules;
-mod supplies;
-mod supplying;
-mod tables;
-mod text;
+mod supply_rules;
+mod supply_values;
+mod table_parts;
+mod table_values;
 
 pub use laws::one_machine;
-pub use making::put;
-pub use printing::print_machine;
+pub use machine_printer::print_machine;
+pub use machine_reader::{MachineFault, read_machine, read_table};
 pub use rules::first_broken;
-pub use text::{MachineFault, read_machine, read_table};
+pub use table_parts::put;

@@ -7,10 +7,10 @@ ghost use Rattle.tp_machine_text.specs.Keys as text;
 ghost use Rattle.tp_machine_text.specs.Kept.{KeepsRules};
 ghost use Rattle.tp_machine_text.specs.TheMachine.{IsMachineOf, loc_of, feeders_of, resources_of, action_of};
 
-use crate::acting::actions_of;
-use crate::building::{locs_of, names_of, number_at};
-use crate::looking::{table_in, value_at, values_at};
-use crate::supplying::{feeders_of, resources_of};
+use crate::action_values::actions_of;
+use crate::lookup::{table_in, value_at, values_at};
+use crate::supply_values::{feeders_of, resources_of};
+use crate::table_values::{locs_of, names_of, number_at};
 use std::alloc::Global;
 use toml::Table;
 use tp_base::{Items, Memory};

@@ -3,12 +3,12 @@ ghost use Rattle.std.specs.Prelude.{◌≡◌};
 ghost use Rattle.toml.specs.View.{table_view};
 ghost use Rattle.tp_machine_text.specs.Broken.{first_broken};
 
-use crate::actions::first_broken_action;
-use crate::amounts::first_broken_amount;
-use crate::holds::first_broken_hold;
-use crate::locations::first_broken_location;
-use crate::numbers::first_broken_number;
-use crate::supplies::first_broken_supply;
+use crate::action_rules::first_broken_action;
+use crate::amount_rules::first_broken_amount;
+use crate::hold_rules::first_broken_hold;
+use crate::location_rules::first_broken_location;
+use crate::number_rules::first_broken_number;
+use crate::supply_rules::first_broken_supply;
 use toml::Table;
 
 /// The number of the first rule that the table breaks. A rule is looked at only where those before

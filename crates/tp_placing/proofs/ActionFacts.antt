@@ -9,7 +9,7 @@ use Rattle.tp_base.specs.Readings.{Reading}
 use Rattle.tp_base.specs.declared.edges.Edge.{Edge}
 use Rattle.tp_base.specs.declared.edges.PointId.{PointId}
 use Rattle.tp_base.specs.Net.{Net, HasLeast, HasNoSolution, with_point, with_edges}
-use Rattle.tp_machine.specs.Using.{action_at}
+use Rattle.tp_machine.specs.ModuleUse.{action_at}
 use Rattle.tp_machine.specs.declared.parts.ActId.{ActId}
 use Rattle.tp_machine.specs.declared.parts.Action.{Action}
 use Rattle.tp_machine.specs.declared.parts.HoldRule.{HoldRule}
@@ -17,7 +17,7 @@ use Rattle.tp_machine.specs.declared.machine.Machine.{Machine}
 use Rattle.tp_machine.proofs.MachineFacts.{is_machine}
 use Rattle.tp_schedule.specs.Answers.{kept_of}
 use Rattle.tp_schedule.specs.Choices.{start_floor, put_places}
-use Rattle.tp_schedule.specs.Holding.{holds_of_act}
+use Rattle.tp_schedule.specs.Holders.{holds_of_act}
 use Rattle.tp_schedule.specs.Spots.{Spot, Slot, Ticks}
 use Rattle.tp_schedule.specs.Spots.Spot.{own}
 use Rattle.tp_schedule.specs.declared.parts.Ask.{Ask}
@@ -32,7 +32,7 @@ use Rattle.tp_placing.specs.Boards.{BoardValue, suffix_after}
 use Rattle.tp_placing.specs.Calls.{CanGoOn}
 use Rattle.tp_placing.specs.Causes.{ArePlain, IsNamedHop, back_tag, forward_tag}
 use Rattle.tp_placing.specs.Edges.{duration_edges, edge_of}
-use Rattle.tp_placing.specs.Standing.{AreCaused, choices_of, IsAtWith, IsAtHand, AreSlots, AreFewSteps, StandsOn, table_with}
+use Rattle.tp_placing.specs.LoadedBoard.{AreCaused, choices_of, IsAtWith, IsAtHand, AreSlots, AreFewSteps, StandsOn, table_with}
 use Rattle.tp_placing.specs.Reasons.{IsReason}
 use Rattle.tp_base.specs.Grows.{IsKnown}
 use Rattle.tp_placing.proofs.CauseFacts.{AreMade, caused-more, hops-more}

@@ -7,11 +7,11 @@ use Rattle.std.proofs.lemmas.List.{map-append, take-append-drop, take-append-le,
 use Rattle.std.proofs.lemmas.Option.{slice_get_past, slice_get_within}
 use Rattle.tp_base.proofs.SliceFacts.{slice_get_left}
 use Rattle.tp_base.specs.declared.edges.PointId.{PointId}
-use Rattle.tp_machine.specs.Using.{action_at}
+use Rattle.tp_machine.specs.ModuleUse.{action_at}
 use Rattle.tp_machine.specs.declared.parts.ActId.{ActId}
 use Rattle.tp_machine.specs.declared.parts.HoldRule.{HoldRule}
 use Rattle.tp_machine.specs.declared.machine.Machine.{Machine}
-use Rattle.tp_schedule.specs.Holding.{holds_of_act}
+use Rattle.tp_schedule.specs.Holders.{holds_of_act}
 use Rattle.tp_schedule.specs.Spots.{Slot, Spot, slot_order}
 use Rattle.tp_schedule.specs.Spots.Spot.{kept, own}
 use Rattle.tp_schedule.specs.declared.parts.Ask.{Ask}
@@ -28,17 +28,17 @@ use Rattle.tp_constraints.specs.Hops.IsHop.{by_end, by_least, by_line, by_most, 
 use Rattle.tp_constraints.specs.Numbers.{points_from, spot_at, spot_in, table_of}
 use Rattle.tp_constraints.specs.Suffixes.{before_place, gap_after, gap_until, place_gaps}
 use Rattle.tp_machine.specs.Modes.{gap_at}
-use Rattle.tp_keeping.specs.Adding.{IsLineBefore, with_plan}
-use Rattle.tp_keeping.specs.Adding.IsLineBefore.{behind, first_of_line}
-use Rattle.tp_keeping.specs.Puts.{Put, held_slots, put_gaps, put_hops, resource_of, rule_slot, with_put}
-use Rattle.tp_keeping.proofs.PlanNets.{spot-more, table-more}
+use Rattle.tp_constraints.specs.AddedPlan.{IsLineBefore, with_plan}
+use Rattle.tp_constraints.specs.AddedPlan.IsLineBefore.{behind, first_of_line}
+use Rattle.tp_constraints.specs.Puts.{Put, held_slots, put_gaps, put_hops, resource_of, rule_slot, with_put}
+use Rattle.tp_constraints.proofs.PlanNets.{spot-more, table-more}
 use Rattle.tp_placing.specs.Causes.{ArePlain, IsNamedHop, hop_by, kind_of, line_tag, numbered}
 use Rattle.tp_placing.specs.Edges.{edge_of}
-use Rattle.tp_placing.specs.Growing.{AreHops, IsLineEnd, behind_edge, own_edges, slot_by}
-use Rattle.tp_placing.specs.Growing.IsLineEnd.{line_end, no_end}
-use Rattle.tp_placing.specs.Loading.{acts_edges, point_id}
+use Rattle.tp_placing.specs.AddedEdges.{AreHops, IsLineEnd, behind_edge, own_edges, slot_by}
+use Rattle.tp_placing.specs.AddedEdges.IsLineEnd.{line_end, no_end}
+use Rattle.tp_placing.specs.LoadedNet.{acts_edges, point_id}
 use Rattle.tp_placing.specs.LoadedHolds.{held_by, held_from}
-use Rattle.tp_placing.specs.Standing.{AreFirsts}
+use Rattle.tp_placing.specs.LoadedBoard.{AreFirsts}
 use Rattle.tp_placing.specs.declared.causes.EdgeCause.{EdgeCause}
 use Rattle.tp_placing.specs.declared.causes.EdgeCause.TheVariants.{Back, Forward, Limit, Line, Resource, Stop}
 use Rattle.tp_base.specs.declared.edges.Edge.{Edge}

@@ -20,20 +20,20 @@ use Rattle.tp_constraints.specs.Hops.{Hop, IsHop, acts_hops, hop, no_choices}
 use Rattle.tp_constraints.specs.Hops.HopKind.{line}
 use Rattle.tp_constraints.specs.Laws.{IsLoadable, no_own}
 use Rattle.tp_constraints.specs.Numbers.{IsEdgeOf, IsTable, gap_by, spot_at, spot_in, table_of}
-use Rattle.tp_keeping.specs.Adding.{IsLineBefore, with_plan}
-use Rattle.tp_keeping.specs.Moments.{SayGaps}
-use Rattle.tp_keeping.specs.Puts.{put_gaps, put_hops, with_puts}
-use Rattle.tp_keeping.proofs.PlanFacts.{loaded-less, plan_order}
-use Rattle.tp_keeping.proofs.PlanHopFacts.{plan_hops}
-use Rattle.tp_keeping.proofs.PlanNets.{plan_net, spot-more}
-use Rattle.tp_keeping.proofs.SayFacts.{plan_says}
+use Rattle.tp_constraints.specs.AddedPlan.{IsLineBefore, with_plan}
+use Rattle.tp_constraints.specs.Moments.{SayGaps}
+use Rattle.tp_constraints.specs.Puts.{put_gaps, put_hops, with_puts}
+use Rattle.tp_constraints.proofs.PlanFacts.{loaded-less, plan_order}
+use Rattle.tp_constraints.proofs.PlanHopFacts.{plan_hops}
+use Rattle.tp_constraints.proofs.PlanNets.{plan_net, spot-more}
+use Rattle.tp_constraints.proofs.SayFacts.{plan_says}
 use Rattle.tp_timelines.specs.Orders.{order_on, total}
 use Rattle.tp_placing.specs.Causes.{ArePlain, IsNamedHop, IsSafe, hop_by}
-use Rattle.tp_placing.specs.Growing.{AreHops, HasPut, IsLineEnd, KeepEdges, own_edges, slot_by}
+use Rattle.tp_placing.specs.AddedEdges.{AreHops, HasPut, IsLineEnd, KeepEdges, own_edges, slot_by}
 use Rattle.tp_placing.specs.Loaded.{CanLoad, IsLoaded}
-use Rattle.tp_placing.specs.Loading.{caps_of, lows_of, point_count, with_bounds}
+use Rattle.tp_placing.specs.LoadedNet.{caps_of, lows_of, point_count, with_bounds}
 use Rattle.tp_placing.specs.LoadedHolds.{held_from}
-use Rattle.tp_placing.specs.Standing.{AreSlots, loaded_edges, loaded_holds}
+use Rattle.tp_placing.specs.LoadedBoard.{AreSlots, loaded_edges, loaded_holds}
 use Rattle.tp_placing.specs.declared.causes.EdgeCause.{EdgeCause}
 use Rattle.tp_placing.specs.declared.parts.Held.{Held}
 use Rattle.tp_placing.proofs.AddFacts.{added-gaps, held-slots, hop-same, own-hops, stands-behind}

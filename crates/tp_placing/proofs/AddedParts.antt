@@ -14,13 +14,13 @@ use Rattle.tp_schedule.specs.declared.parts.Plan.{Plan}
 use Rattle.tp_constraints.specs.Gaps.{cap_at, low_at}
 use Rattle.tp_constraints.specs.Laws.{IsLoadable, no_own}
 use Rattle.tp_constraints.specs.Numbers.{points_from, table_of}
-use Rattle.tp_keeping.specs.Adding.{with_plan}
-use Rattle.tp_keeping.proofs.PlanNets.{table-more}
+use Rattle.tp_constraints.specs.AddedPlan.{with_plan}
+use Rattle.tp_constraints.proofs.PlanNets.{table-more}
 use Rattle.tp_timelines.specs.Orders.{order_on}
 use Rattle.tp_placing.specs.Loaded.{CanLoad, IsLoaded}
-use Rattle.tp_placing.specs.Loading.{AreIds, HasBounds, HasPoints, caps_of, firsts_from, lows_of, point_count, point_id, with_bounds}
+use Rattle.tp_placing.specs.LoadedNet.{AreIds, HasBounds, HasPoints, caps_of, firsts_from, lows_of, point_count, point_id, with_bounds}
 use Rattle.tp_placing.specs.LoadedHolds.{IsHeldWithin, IsRuleOf, held_from, ticks_in}
-use Rattle.tp_placing.specs.Standing.{AreFirsts, AreSlots, HasSmallOffsets}
+use Rattle.tp_placing.specs.LoadedBoard.{AreFirsts, AreSlots, HasSmallOffsets}
 use Rattle.tp_placing.specs.declared.causes.EdgeCause.{EdgeCause}
 use Rattle.tp_placing.specs.declared.parts.Held.{Held}
 use Rattle.tp_placing.proofs.LiveFacts.{points-few}

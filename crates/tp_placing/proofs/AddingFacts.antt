@@ -11,13 +11,13 @@ use Rattle.tp_schedule.specs.Spots.{Slot, slot_order}
 use Rattle.tp_schedule.specs.declared.parts.Plan.{Plan}
 use Rattle.tp_constraints.specs.Laws.{IsLoadable}
 use Rattle.tp_constraints.specs.Numbers.{table_of}
-use Rattle.tp_keeping.specs.Adding.{with_plan}
+use Rattle.tp_constraints.specs.AddedPlan.{with_plan}
 use Rattle.tp_timelines.specs.Orders.{order_on, total}
-use Rattle.tp_placing.specs.Growing.{HasPut, IsBehind, IsLineEnd, KeepEdges, own_edges, slot_by}
+use Rattle.tp_placing.specs.AddedEdges.{HasPut, IsBehind, IsLineEnd, KeepEdges, own_edges, slot_by}
 use Rattle.tp_placing.specs.Loaded.{CanLoad, IsLoaded}
 use Rattle.tp_placing.specs.LoadedHolds.{IsHeldWithin, IsRuleOf, held_from, ticks_in}
-use Rattle.tp_placing.specs.Loading.{AreIds, HasBounds, HasPoints, caps_of, firsts_from, lows_of, point_count, with_bounds}
-use Rattle.tp_placing.specs.Standing.{AreSlots, HasSmallOffsets, loaded_edges, loaded_holds}
+use Rattle.tp_placing.specs.LoadedNet.{AreIds, HasBounds, HasPoints, caps_of, firsts_from, lows_of, point_count, with_bounds}
+use Rattle.tp_placing.specs.LoadedBoard.{AreSlots, HasSmallOffsets, loaded_edges, loaded_holds}
 use Rattle.tp_placing.specs.declared.causes.EdgeCause.{EdgeCause}
 use Rattle.tp_placing.specs.declared.parts.Held.{Held}
 use Rattle.tp_placing.proofs.AddedNet.{edges-in-net, edges-known, loaded, solved}

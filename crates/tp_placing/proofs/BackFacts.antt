@@ -6,8 +6,8 @@ use Rattle.tp_machine.specs.declared.machine.Machine.{Machine}
 use Rattle.tp_schedule.specs.declared.parts.Ask.{Ask}
 use Rattle.tp_placing.specs.declared.causes.EdgeCause.{EdgeCause}
 use Rattle.tp_placing.specs.Boards.{BoardUntouched, BoardValue, past_of, side_by_side}
-use Rattle.tp_placing.specs.Standing.{StandsOn}
-use Rattle.tp_placing.specs.Walking.{StandsBack}
+use Rattle.tp_placing.specs.LoadedBoard.{StandsOn}
+use Rattle.tp_placing.specs.RefusedPlace.{StandsBack}
 use Rattle.tp_placing.proofs.CauseFacts.{Keeps}
 use Rattle.tp_placing.proofs.MarkFacts.{undo_keeps}
 use Rattle.tp_placing.proofs.StandFacts.{stands-still}

@@ -9,11 +9,11 @@ use Rattle.tp_base.specs.declared.edges.PointId.{PointId}
 use Rattle.tp_machine.specs.declared.machine.Machine.{Machine}
 use Rattle.tp_schedule.specs.declared.parts.Plan.{Plan}
 use Rattle.tp_constraints.specs.Numbers.{table_of}
-use Rattle.tp_keeping.specs.Adding.{with_plan}
-use Rattle.tp_placing.specs.Growing.{IsBehind, behind_edge, own_edges}
+use Rattle.tp_constraints.specs.AddedPlan.{with_plan}
+use Rattle.tp_placing.specs.AddedEdges.{IsBehind, behind_edge, own_edges}
 use Rattle.tp_placing.specs.Loaded.{CanLoad}
-use Rattle.tp_placing.specs.Loading.{acts_edges, point_count, point_id}
-use Rattle.tp_placing.specs.Standing.{AreFirsts}
+use Rattle.tp_placing.specs.LoadedNet.{acts_edges, point_count, point_id}
+use Rattle.tp_placing.specs.LoadedBoard.{AreFirsts}
 use Rattle.tp_placing.specs.declared.causes.EdgeCause.{EdgeCause}
 use Rattle.tp_placing.specs.declared.parts.Held.{Held}
 use Rattle.tp_placing.proofs.LoadHops.{acts-count}

@@ -14,7 +14,7 @@ use Rattle.tp_placing.specs.declared.parts.Held.{Held}
 use Rattle.tp_placing.specs.declared.parts.MadeFor.{MadeFor}
 use Rattle.tp_placing.specs.declared.parts.Step.{Step}
 use Rattle.tp_placing.specs.Inside.{IsBoard, most_holds, most_steps}
-use Rattle.tp_placing.specs.Standing.{AreFewSteps, choice_steps, newest_places, stop_steps}
+use Rattle.tp_placing.specs.LoadedBoard.{AreFewSteps, choice_steps, newest_places, stop_steps}
 use Rattle.tp_placing.proofs.PastFacts.{marks-more}
 
 -- the fields after a step: the network and the orders keep their numbers, and holds and steps grow within their room

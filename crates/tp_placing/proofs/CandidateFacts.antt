@@ -15,7 +15,7 @@ use Rattle.tp_placing.specs.Causes.{causes_around}
 use Rattle.tp_placing.specs.Edges.{edges_around, held_before, held_behind}
 use Rattle.tp_placing.specs.Inside.{AreMarks, most_edges, most_holds, most_steps}
 use Rattle.tp_placing.specs.Reasons.{HasReason, IsReason}
-use Rattle.tp_placing.specs.Standing.{AreCaused, IsAtWith, Stands}
+use Rattle.tp_placing.specs.LoadedBoard.{AreCaused, IsAtWith, Stands}
 use Rattle.tp_placing.specs.declared.candidates.Candidate.{Candidate}
 use Rattle.tp_placing.specs.declared.causes.EdgeCause.{EdgeCause}
 use Rattle.tp_placing.specs.declared.neighbours.Neighbours.{Neighbours}

@@ -17,8 +17,8 @@ use Rattle.tp_placing.specs.Candidates.{HasInserted, place_step}
 use Rattle.tp_placing.specs.Causes.{step_tag}
 use Rattle.tp_placing.specs.Edges.{edge_until, edges_back, held_behind}
 use Rattle.tp_placing.specs.Reasons.{HasReason}
-use Rattle.tp_placing.specs.Standing.{AreCaused, IsAtWith}
-use Rattle.tp_placing.specs.Walking.{HasNoTimesUpTo, HasReasonUpTo, IsPartReason, IsRefused, StandsBack}
+use Rattle.tp_placing.specs.LoadedBoard.{AreCaused, IsAtWith}
+use Rattle.tp_placing.specs.RefusedPlace.{HasNoTimesUpTo, HasReasonUpTo, IsPartReason, IsRefused, StandsBack}
 use Rattle.tp_placing.specs.declared.candidates.Candidate.{Candidate}
 use Rattle.tp_placing.specs.declared.causes.EdgeCause.{EdgeCause}
 use Rattle.tp_placing.specs.declared.neighbours.Neighbours.{Neighbours}

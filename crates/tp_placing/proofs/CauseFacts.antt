@@ -22,7 +22,7 @@ use Rattle.tp_placing.specs.declared.parts.Held.{Held}
 use Rattle.tp_placing.specs.declared.parts.Step.{Step}
 use Rattle.tp_placing.specs.Boards.{suffix_after}
 use Rattle.tp_placing.specs.Causes.{ArePlain, IsNamedHop, IsSafe, step_tag, step_causes, cause_between, cause_after, cause_until, causes_around, hop_by, kind_of, numbered}
-use Rattle.tp_placing.specs.Standing.{AreCaused, choices_of, table_with}
+use Rattle.tp_placing.specs.LoadedBoard.{AreCaused, choices_of, table_with}
 use Rattle.tp_placing.proofs.TableFacts.{length-table, table-left, table-own}
 
 -- a point that a table has is that of its number

@@ -15,7 +15,7 @@ use Rattle.tp_machine.specs.declared.machine.Machine.{Machine}
 use Rattle.tp_machine.specs.declared.parts.ActId.{ActId}
 use Rattle.tp_schedule.specs.Plans.{LastsWithin}
 use Rattle.tp_schedule.specs.declared.parts.Plan.{Plan}
-use Rattle.tp_placing.specs.Crowding.{ArePlanned, IsLong, IsPutBy, IsRowBy, LastsAtLeast, begin_by, end_by}
+use Rattle.tp_placing.specs.PushedHolds.{ArePlanned, IsLong, IsPutBy, IsRowBy, LastsAtLeast, begin_by, end_by}
 use Rattle.tp_placing.specs.Edges.{held_behind, held_of}
 use Rattle.tp_placing.specs.declared.parts.Held.{Held}
 

@@ -10,10 +10,10 @@ use Rattle.tp_base.specs.Net.{IsSolution, Net}
 use Rattle.tp_base.specs.Readings.{Reading}
 use Rattle.tp_base.specs.declared.edges.PointId.{PointId}
 use Rattle.tp_machine.specs.Modes.{gap_at}
-use Rattle.tp_machine.specs.Using.{action_at}
+use Rattle.tp_machine.specs.ModuleUse.{action_at}
 use Rattle.tp_machine.specs.declared.machine.Machine.{Machine}
 use Rattle.tp_machine.specs.declared.parts.ActId.{ActId}
-use Rattle.tp_schedule.specs.Holding.{holds_of_act}
+use Rattle.tp_schedule.specs.Holders.{holds_of_act}
 use Rattle.tp_schedule.specs.Plans.{LastsWithin}
 use Rattle.tp_schedule.specs.Spots.{IsSoundSlot, Slot, Spot, Ticks}
 use Rattle.tp_schedule.specs.Spots.Spot.{kept, own}
@@ -24,12 +24,12 @@ use Rattle.tp_constraints.specs.Walks.{IsNextHold}
 use Rattle.tp_constraints.proofs.HeldSlots.{own-sound, placed-sound}
 use Rattle.tp_constraints.proofs.Rooms.{same-is}
 use Rattle.tp_constraints.proofs.Solutions.{times-solve}
-use Rattle.tp_constraints.proofs.Walking.{walk_place}
+use Rattle.tp_constraints.proofs.PlaceWalks.{walk_place}
 use Rattle.tp_placing.specs.Boards.{BoardValue, suffix_after}
-use Rattle.tp_placing.specs.Crowding.{ArePlanned, IsAmong, IsPutBy, LastsAtLeast, begin_by}
+use Rattle.tp_placing.specs.PushedHolds.{ArePlanned, IsAmong, IsPutBy, LastsAtLeast, begin_by}
 use Rattle.tp_placing.specs.Edges.{held_behind}
-use Rattle.tp_placing.specs.Standing.{table_with}
-use Rattle.tp_placing.specs.Walking.{EndsAfterUpTo, StandsBack}
+use Rattle.tp_placing.specs.LoadedBoard.{table_with}
+use Rattle.tp_placing.specs.RefusedPlace.{EndsAfterUpTo, StandsBack}
 use Rattle.tp_placing.specs.declared.candidates.Candidate.{Candidate}
 use Rattle.tp_placing.specs.declared.parts.Held.{Held}
 use Rattle.tp_placing.proofs.BackFacts.{stands-back}

@@ -7,7 +7,7 @@ use Rattle.std.proofs.lemmas.List.Elements.{All-head}
 use Rattle.std.proofs.lemmas.Option.{same_Some, slice_get_within}
 use Rattle.tp_base.proofs.SliceFacts.{All-at}
 use Rattle.tp_base.specs.declared.edges.PointId.{PointId}
-use Rattle.tp_machine.specs.Using.{tick_of}
+use Rattle.tp_machine.specs.ModuleUse.{tick_of}
 use Rattle.tp_machine.specs.declared.parts.Anchor.{Anchor}
 use Rattle.tp_machine.specs.declared.parts.Anchor.TheVariants.{Start, End}
 use Rattle.tp_machine.specs.declared.parts.HoldRule.{HoldRule}
@@ -17,9 +17,9 @@ use Rattle.tp_constraints.specs.Gaps.{KeepsGap, KeepsGaps, slot_gap}
 use Rattle.tp_constraints.specs.Numbers.{spot_at, spot_in}
 use Rattle.tp_constraints.specs.Suffixes.{before_place, gap_after, gap_until}
 use Rattle.tp_constraints.proofs.OrderGaps.{apart-from_gap}
-use Rattle.tp_placing.specs.Crowding.{IsAmong, IsPutBy, IsRowBy, begin_by, end_by}
+use Rattle.tp_placing.specs.PushedHolds.{IsAmong, IsPutBy, IsRowBy, begin_by, end_by}
 use Rattle.tp_placing.specs.Edges.{anchor_point, held_before, held_behind, held_of}
-use Rattle.tp_placing.specs.Standing.{AreSlots}
+use Rattle.tp_placing.specs.LoadedBoard.{AreSlots}
 use Rattle.tp_placing.specs.declared.parts.Held.{Held}
 use Rattle.tp_placing.proofs.SlotFacts.{AtPlace, slots-at, slots-before}
 use Rattle.tp_placing.proofs.SlotFacts.AtPlace.{none, some}

@@ -2,14 +2,14 @@
 use Rattle.std.proofs.Common.{◌≡◌, ◌∙◌, inl, inr, ◌+◌, ◌≤◌, List, filter, ap, sym, subst, arith}
 use Rattle.tp_machine.specs.declared.machine.Machine.{Machine}
 use Rattle.tp_schedule.specs.Answers.{kept_of}
-use Rattle.tp_schedule.specs.Living.{is_live}
-use Rattle.tp_schedule.specs.Planning.{CanAsk}
+use Rattle.tp_schedule.specs.LivePlans.{is_live}
+use Rattle.tp_schedule.specs.PlannerAnswers.{CanAsk}
 use Rattle.tp_schedule.specs.declared.parts.Ask.{Ask}
 use Rattle.tp_schedule.specs.declared.parts.Plan.{Plan}
-use Rattle.tp_placing.specs.Following.{AreFit}
+use Rattle.tp_placing.specs.KeptBoard.{AreFit}
 use Rattle.tp_placing.specs.Loaded.{CanLoad}
-use Rattle.tp_placing.specs.Loading.{point_count}
-use Rattle.tp_placing.specs.Writing.{IsHeldFrom}
+use Rattle.tp_placing.specs.LoadedNet.{point_count}
+use Rattle.tp_placing.specs.Commits.{IsHeldFrom}
 use Rattle.tp_placing.proofs.HeldPlans.{held-live, held-put}
 use Rattle.tp_placing.proofs.LivePlans.{live-few}
 

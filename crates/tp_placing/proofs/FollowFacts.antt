@@ -12,8 +12,8 @@ use Rattle.tp_constraints.proofs.Lists.{get-there}
 use Rattle.tp_constraints.specs.Laws.{IsLoadable}
 use Rattle.tp_placing.specs.Boards.{BoardValue, side_by_side}
 use Rattle.tp_placing.specs.Loaded.{CanLoad, IsLoaded}
-use Rattle.tp_placing.specs.Loading.{point_count}
-use Rattle.tp_placing.specs.Standing.{Stands}
+use Rattle.tp_placing.specs.LoadedNet.{point_count}
+use Rattle.tp_placing.specs.LoadedBoard.{Stands}
 use Rattle.tp_placing.specs.declared.causes.EdgeCause.{EdgeCause}
 use Rattle.tp_placing.specs.declared.parts.BoardMark.{BoardMark}
 use Rattle.tp_placing.specs.declared.parts.Held.{Held}

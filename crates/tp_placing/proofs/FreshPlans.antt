@@ -5,15 +5,15 @@ use Rattle.std.proofs.lemmas.List.Elements.{Contains-append_cases}
 use Rattle.tp_machine.specs.declared.machine.Machine.{Machine}
 use Rattle.tp_schedule.proofs.Membership.{Contains-cons_cases, Contains-here, Contains-later}
 use Rattle.tp_schedule.specs.Legality.{IsLegal}
-use Rattle.tp_schedule.specs.Living.{is_live}
+use Rattle.tp_schedule.specs.LivePlans.{is_live}
 use Rattle.tp_schedule.specs.Plans.{IsEarlier, point}
 use Rattle.tp_schedule.specs.declared.parts.Plan.{Plan}
-use Rattle.tp_keeping.specs.Adding.{with_plan}
+use Rattle.tp_constraints.specs.AddedPlan.{with_plan}
 use Rattle.tp_base.specs.Net.{Net}
 use Rattle.tp_base.specs.declared.edges.PointId.{PointId}
-use Rattle.tp_placing.specs.Growing.{IsBehind}
+use Rattle.tp_placing.specs.AddedEdges.{IsBehind}
 use Rattle.tp_placing.specs.Loaded.{CanLoad, IsLoaded}
-use Rattle.tp_placing.specs.Loading.{point_count}
+use Rattle.tp_placing.specs.LoadedNet.{point_count}
 use Rattle.tp_placing.specs.declared.causes.EdgeCause.{EdgeCause}
 use Rattle.tp_placing.specs.declared.parts.Held.{Held}
 use Rattle.tp_placing.proofs.FollowFacts.{one-more}

@@ -23,7 +23,7 @@ use Rattle.tp_placing.specs.declared.parts.Step.{Step}
 use Rattle.tp_placing.specs.Boards.{BoardValue, suffix_after}
 use Rattle.tp_placing.specs.Causes.{IsNamedHop, line_tag}
 use Rattle.tp_placing.specs.Edges.{end_edges}
-use Rattle.tp_placing.specs.Standing.{AreCaused, choices_of, IsAtWith, AreSlots, AreFewSteps, StandsOn, table_with, step_edges}
+use Rattle.tp_placing.specs.LoadedBoard.{AreCaused, choices_of, IsAtWith, AreSlots, AreFewSteps, StandsOn, table_with, step_edges}
 use Rattle.tp_placing.specs.Reasons.{IsReason}
 use Rattle.tp_base.specs.Grows.{IsKnown}
 use Rattle.tp_placing.proofs.CauseFacts.{AreMade, caused-more, hops-more}

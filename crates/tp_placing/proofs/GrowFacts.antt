@@ -19,15 +19,15 @@ use Rattle.tp_constraints.specs.Gaps.{gap}
 use Rattle.tp_constraints.specs.Hops.{Hop, hop, hop_after, hop_until, place_hops, slot_hop}
 use Rattle.tp_constraints.specs.Numbers.{spot_at, spot_in, table_of}
 use Rattle.tp_constraints.specs.Suffixes.{before_place}
-use Rattle.tp_keeping.specs.Puts.{Put, put_hops, with_put, with_puts}
-use Rattle.tp_keeping.proofs.PutFacts.{IsOf, put-here, put_hops-push, puts-on, puts-push, within-push}
+use Rattle.tp_constraints.specs.Puts.{Put, put_hops, with_put, with_puts}
+use Rattle.tp_constraints.proofs.PutFacts.{IsOf, put-here, put_hops-push, puts-on, puts-push, within-push}
 use Rattle.tp_timelines.specs.Orders.{order_on, total}
 use Rattle.tp_placing.specs.Causes.{cause_between, hop_by, kind_of, numbered, step_causes}
 use Rattle.tp_placing.specs.Edges.{edge_after, edge_until, edges_around, held_before, held_behind, held_of, hold_edge}
-use Rattle.tp_placing.specs.Growing.{AreHops, HasPut, cause_before, cause_behind, causes_for, slot_by}
-use Rattle.tp_placing.specs.Loading.{AreIds}
+use Rattle.tp_placing.specs.AddedEdges.{AreHops, HasPut, cause_before, cause_behind, causes_for, slot_by}
+use Rattle.tp_placing.specs.LoadedNet.{AreIds}
 use Rattle.tp_placing.specs.LoadedHolds.{IsHeldWithin}
-use Rattle.tp_placing.specs.Standing.{AreSlots, HasSmallOffsets, IsSlotOf}
+use Rattle.tp_placing.specs.LoadedBoard.{AreSlots, HasSmallOffsets, IsSlotOf}
 use Rattle.tp_placing.specs.declared.causes.EdgeCause.{EdgeCause}
 use Rattle.tp_placing.specs.declared.parts.Held.{Held}
 use Rattle.tp_placing.proofs.LoadHops.{hops-append, hops-none, hops-one}

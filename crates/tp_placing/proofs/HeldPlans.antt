@@ -5,8 +5,8 @@ use Rattle.tp_machine.specs.declared.machine.Machine.{Machine}
 use Rattle.tp_schedule.proofs.CopyFacts.{before-asym, before-not_same, plan_of-itself, same_copy-is}
 use Rattle.tp_schedule.proofs.Membership.{Contains-filter, Contains-filter_from}
 use Rattle.tp_schedule.specs.Answers.{IsAskedFrom}
-use Rattle.tp_schedule.specs.Living.{is_live}
-use Rattle.tp_schedule.specs.Planning.{CanAsk, HasTimeFrom, IsOpenGoal}
+use Rattle.tp_schedule.specs.LivePlans.{is_live}
+use Rattle.tp_schedule.specs.PlannerAnswers.{CanAsk, HasTimeFrom, IsOpenGoal}
 use Rattle.tp_schedule.specs.Plans.{is_before, plan_of}
 use Rattle.tp_schedule.specs.declared.parts.Ask.{Ask}
 use Rattle.tp_schedule.specs.declared.parts.Goal.{Goal}
@@ -17,7 +17,7 @@ use Rattle.tp_schedule.specs.declared.parts.Plan.{Plan}
 use Rattle.tp_choices.proofs.Lists.{filter-all}
 use Rattle.tp_choices.proofs.PlansOf.{plan_of-contains}
 use Rattle.tp_placing.specs.Loaded.{CanLoad}
-use Rattle.tp_placing.specs.Writing.{CanPut, IsHeldFrom}
+use Rattle.tp_placing.specs.Commits.{CanPut, IsHeldFrom}
 use Rattle.tp_placing.proofs.LivePlans.{live-asked, live-loads}
 
 module _ (machine : Machine) (plans : List Plan) (ask : Ask) (held : List Plan) (can : CanAsk machine plans ask) (loads : CanLoad machine ask.now held) (few : length held + 1 < 4294967296)

@@ -6,8 +6,8 @@ use Rattle.std.proofs.lemmas.List.{append-nil}
 use Rattle.std.proofs.lemmas.List.Elements.{All-contains, All-head, Contains-append_left, Contains-push, Contains-push_cases, filter-append}
 use Rattle.tp_machine.specs.declared.machine.Machine.{Machine}
 use Rattle.tp_schedule.specs.Legality.{EndsBefore, IsLegal}
-use Rattle.tp_schedule.specs.Living.{is_live}
-use Rattle.tp_schedule.specs.Planning.{CanPlanOn}
+use Rattle.tp_schedule.specs.LivePlans.{is_live}
+use Rattle.tp_schedule.specs.PlannerAnswers.{CanPlanOn}
 use Rattle.tp_schedule.specs.Plans.{IsEarlier, IsTimedPlan, end_of_plan, is_before, is_delivered_to, is_same_copy, plan_of, point}
 use Rattle.tp_schedule.specs.Spots.{Slot, Spot, slot_order, slots, slots_of}
 use Rattle.tp_schedule.specs.Spots.Spot.{kept, own}
@@ -22,9 +22,9 @@ use Rattle.tp_choices.proofs.PastFacts.{past_points}
 use Rattle.tp_choices.proofs.PlansOf.{plan_of-contains}
 use Rattle.tp_choices.proofs.PointFacts.{point-le}
 use Rattle.tp_choices.proofs.SameTicks.{order-staying}
-use Rattle.tp_choices.proofs.Staying.{on_copy, stays, staying}
+use Rattle.tp_choices.proofs.StayingPlans.{on_copy, stays, staying}
 use Rattle.tp_choices.proofs.Unmoved.{ordered_pair}
-use Rattle.tp_keeping.specs.Adding.{with_plan}
+use Rattle.tp_constraints.specs.AddedPlan.{with_plan}
 use Rattle.tp_placing.proofs.WriteLive.{ended, gone, may-forget}
 use Rattle.tp_placing.proofs.WriteWhole.{less-live}
 

@@ -18,7 +18,7 @@ use Rattle.tp_constraints.specs.Gaps.{gap, end_spot, is_in_line}
 use Rattle.tp_constraints.specs.Numbers.{gap_by, points_from, spot_at, table_of}
 use Rattle.tp_placing.specs.Causes.{line_tag}
 use Rattle.tp_placing.specs.Edges.{edge_of, edge_to, end_edges, end_if, first_end, first_of, is_ahead, is_behind, last_end, line_edge, plan_end}
-use Rattle.tp_placing.specs.Standing.{AreFirsts, table_with}
+use Rattle.tp_placing.specs.LoadedBoard.{AreFirsts, table_with}
 use Rattle.tp_base.specs.Grows.{IsKnown}
 use Rattle.tp_placing.proofs.LineEnds.{read-at}
 use Rattle.tp_placing.proofs.LoadHolds.{drop-get}

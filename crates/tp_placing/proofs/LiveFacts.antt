@@ -5,7 +5,7 @@ use Rattle.std.proofs.lemmas.List.{append_assoc, length-append}
 use Rattle.std.proofs.lemmas.List.Elements.{All-nil, All-head, All-tail}
 use Rattle.tp_base.specs.Net.{HasLeast, empty_net}
 use Rattle.tp_schedule.specs.declared.parts.Plan.{Plan}
-use Rattle.tp_placing.specs.Loading.{point_count}
+use Rattle.tp_placing.specs.LoadedNet.{point_count}
 use Rattle.tp_placing.proofs.LoadHolds.{drop-get}
 
 module _ {X : Type 0} (test : X → Bool) (kept xs whole : List X) (at : ℕ) (x : X) (read : slice_get xs at ≡ Some x) (so-far : kept ++ filter test (drop at xs) ≡ whole) where

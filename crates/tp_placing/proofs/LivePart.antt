@@ -9,13 +9,13 @@ use Rattle.tp_schedule.proofs.HeldModes.{spread-fewer, held_in_more}
 use Rattle.tp_schedule.proofs.Membership.{Contains-filter_from}
 use Rattle.tp_schedule.proofs.LegalFacts.{length-filter-flat_map-filter}
 use Rattle.tp_schedule.proofs.Pairs.{AllPairs-head, AllPairs-tail}
-use Rattle.tp_schedule.specs.Holding.{runs, runs_of, hold_of, holds_at}
+use Rattle.tp_schedule.specs.Holders.{runs, runs_of, hold_of, holds_at}
 use Rattle.tp_schedule.specs.Legality.{IsLegal, EndsBefore}
 use Rattle.tp_schedule.specs.Plans.{IsTimedPlan, IsEarlier, plan_of, without, is_same_copy, is_before}
 use Rattle.tp_schedule.specs.declared.parts.Plan.{Plan}
 use Rattle.tp_schedule.specs.declared.parts.SheetId.{SheetId}
 use Rattle.tp_choices.proofs.Lists.{filter-all}
-use Rattle.tp_placing.specs.Loading.{point_count}
+use Rattle.tp_placing.specs.LoadedNet.{point_count}
 use Rattle.tp_placing.proofs.LoadPoints.{count-append}
 
 -- a legal schedule less some plans is legal

@@ -7,8 +7,8 @@ use Rattle.tp_schedule.proofs.ChangeFacts.{All-plan_of}
 use Rattle.tp_schedule.proofs.Membership.{Contains-filter_from}
 use Rattle.tp_schedule.proofs.PlanOrder.{without-none}
 use Rattle.tp_schedule.specs.Answers.{IsAskedFrom, kept_from}
-use Rattle.tp_schedule.specs.Living.{is_live}
-use Rattle.tp_schedule.specs.Planning.{CanAsk, CanPlanOn, HasTimeFrom}
+use Rattle.tp_schedule.specs.LivePlans.{is_live}
+use Rattle.tp_schedule.specs.PlannerAnswers.{CanAsk, CanPlanOn, HasTimeFrom}
 use Rattle.tp_schedule.specs.Plans.{IsTimedPlan, without, is_same_copy}
 use Rattle.tp_schedule.specs.declared.parts.Ask.{Ask}
 use Rattle.tp_schedule.specs.declared.parts.Origin.{Origin}
@@ -16,7 +16,7 @@ use Rattle.tp_schedule.specs.declared.parts.Origin.TheVariants.{Feeder as FromFe
 use Rattle.tp_schedule.specs.declared.parts.Plan.{Plan}
 use Rattle.tp_choices.proofs.PastFacts.{past_points}
 use Rattle.tp_placing.specs.Loaded.{CanLoad}
-use Rattle.tp_placing.specs.Loading.{point_count}
+use Rattle.tp_placing.specs.LoadedNet.{point_count}
 use Rattle.tp_placing.proofs.LiveFacts.{points-few}
 use Rattle.tp_placing.proofs.LivePart.{legal-filter, plan-none, plan-some, split-copy, one-more}
 

@@ -12,7 +12,7 @@ use Rattle.tp_placing.specs.declared.causes.EdgeCause.{EdgeCause}
 use Rattle.tp_machine.specs.Modes.{gap_at}
 use Rattle.tp_machine.specs.declared.machine.Machine.{Machine}
 use Rattle.tp_placing.specs.Edges.{hold_edge}
-use Rattle.tp_placing.specs.Loading.{with_hold, holds_in, AreIds, chain_causes, chain_edges, chains_causes, chains_edges}
+use Rattle.tp_placing.specs.LoadedNet.{with_hold, holds_in, AreIds, chain_causes, chain_edges, chains_causes, chains_edges}
 use Rattle.tp_placing.proofs.LoadHolds.{drop-get}
 
 pub holds-head : (held : List Held) (id : ℕ) (ids : List ℕ) → id < length held → (h : Held) × (slice_get held id ≡ Some h) × (holds_in held (id ∷ ids) ≡ h ∷ holds_in held ids)

@@ -9,7 +9,7 @@ use Rattle.std.proofs.lemmas.Option.{slice_get_within}
 use Rattle.tp_base.proofs.SliceFacts.{found}
 use Rattle.tp_base.specs.declared.edges.Edge.{Edge}
 use Rattle.tp_base.specs.declared.edges.PointId.{PointId}
-use Rattle.tp_machine.specs.Using.{action_at}
+use Rattle.tp_machine.specs.ModuleUse.{action_at}
 use Rattle.tp_machine.specs.declared.parts.ActId.{ActId}
 use Rattle.tp_machine.specs.declared.parts.Action.{Action}
 use Rattle.tp_machine.specs.declared.machine.Machine.{Machine}
@@ -26,11 +26,11 @@ use Rattle.tp_placing.specs.Causes.{ArePlain, IsSafe, forward_tag, back_tag, lin
 use Rattle.tp_placing.specs.declared.causes.EdgeCause.{EdgeCause}
 use Rattle.tp_placing.specs.Edges.{edge_of}
 use Rattle.tp_placing.specs.Edges.{line_edge}
-use Rattle.tp_placing.specs.Loading.{point_id, act_edges, acts_edges, plans_edges, next_end, lines_edges}
+use Rattle.tp_placing.specs.LoadedNet.{point_id, act_edges, acts_edges, plans_edges, next_end, lines_edges}
 use Rattle.tp_base.specs.Grows.{IsKnown}
 use Rattle.tp_placing.proofs.CauseFacts.{numbered-in}
 use Rattle.tp_placing.proofs.LoadTable.{StandsAt, AreNumbered}
-pub use Rattle.tp_placing.specs.Growing.{AreHops}
+pub use Rattle.tp_placing.specs.AddedEdges.{AreHops}
 
 pub hops-none : (plans : List Plan) (causes : List EdgeCause) → AreHops plans causes [] []
 hops-none plans causes = record { hops = refl; can = All-nil (IsKnown (length (table_of plans))); tags = All-nil (λ (e : Edge). e.tag < length causes); safe = All-nil (IsSafe 0) }

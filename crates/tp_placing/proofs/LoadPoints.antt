@@ -8,8 +8,8 @@ use Rattle.tp_schedule.specs.Times.{ticks_from}
 use Rattle.tp_schedule.specs.declared.parts.Plan.{Plan}
 use Rattle.tp_base.specs.declared.edges.PointId.{PointId}
 use Rattle.tp_constraints.specs.Gaps.{low_of, cap_of}
-use Rattle.tp_placing.specs.Loading.{with_bounds, with_plans, lows_of, caps_of, firsts_from, point_id, point_count}
-use Rattle.tp_placing.specs.Standing.{AreFirsts}
+use Rattle.tp_placing.specs.LoadedNet.{with_bounds, with_plans, lows_of, caps_of, firsts_from, point_id, point_count}
+use Rattle.tp_placing.specs.LoadedBoard.{AreFirsts}
 
 ticks-push : (f : ℕ → ℕ) (i n : ℕ) → ticks_from f i (suc n) ≡ ticks_from f i n ++ f (i + n) ∷ []
 ticks-push f i zero = let e : i + 0 ≡ i = omega arith in ap (λ k. f k ∷ []) (sym e)

@@ -14,7 +14,7 @@ use Rattle.tp_schedule.specs.Times.{ticks_from}
 use Rattle.tp_schedule.specs.declared.parts.Plan.{Plan}
 use Rattle.tp_schedule.specs.declared.parts.SheetId.{SheetId}
 use Rattle.tp_constraints.specs.Numbers.{points_from, table_of, spot_at, spot_in}
-use Rattle.tp_placing.specs.Loading.{point_count}
+use Rattle.tp_placing.specs.LoadedNet.{point_count}
 use Rattle.tp_placing.specs.LoadedHolds.{ticks_in}
 use Rattle.tp_placing.proofs.TableFacts.{get-right, length-points, points-get}
 

@@ -10,7 +10,7 @@ use Rattle.std.proofs.lemmas.List.Elements.{All-contains, All-take}
 use Rattle.std.proofs.lemmas.Option.{get_or_from_slice_get}
 use Rattle.tp_base.specs.declared.edges.PointId.{PointId}
 use Rattle.tp_schedule.specs.declared.parts.Plan.{Plan}
-use Rattle.tp_placing.specs.Loading.{HasPoints, firsts_from, point_count, point_id}
+use Rattle.tp_placing.specs.LoadedNet.{HasPoints, firsts_from, point_count, point_id}
 use Rattle.tp_placing.specs.LoadedHolds.{ticks_in}
 use Rattle.tp_placing.proofs.LoadTable.{length-ticks}
 use Rattle.tp_placing.proofs.LoadPoints.{count-more, count-within}

@@ -12,11 +12,11 @@ use Rattle.tp_constraints.specs.Gaps.{IsPoint}
 use Rattle.tp_constraints.specs.Hops.{no_choices}
 use Rattle.tp_constraints.specs.Nets.{IsLoadedNet}
 use Rattle.tp_constraints.specs.Numbers.{spot_in, table_of}
-use Rattle.tp_keeping.proofs.PlanHopFacts.{other_ask}
+use Rattle.tp_constraints.proofs.PlanHopFacts.{other_ask}
 use Rattle.tp_placing.specs.Boards.{BoardValue}
 use Rattle.tp_placing.specs.Causes.{IsNamedHop, hop_by, numbered}
 use Rattle.tp_placing.specs.Loaded.{IsLoaded}
-use Rattle.tp_placing.specs.Standing.{AreCaused, IsAt, StandsOn}
+use Rattle.tp_placing.specs.LoadedBoard.{AreCaused, IsAt, StandsOn}
 use Rattle.tp_placing.specs.declared.causes.EdgeCause.{EdgeCause}
 use Rattle.tp_placing.proofs.LoadHops.{number-spot}
 

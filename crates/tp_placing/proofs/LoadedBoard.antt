@@ -6,15 +6,15 @@ use Rattle.tp_machine.specs.declared.machine.Machine.{Machine}
 use Rattle.tp_machine.proofs.MachineFacts.{is_machine}
 use Rattle.tp_schedule.specs.Answers.{IsAsked, kept_of}
 use Rattle.tp_schedule.specs.Choices.{start_floor}
-use Rattle.tp_schedule.specs.Living.{is_live}
-use Rattle.tp_schedule.specs.Planning.{CanAsk}
+use Rattle.tp_schedule.specs.LivePlans.{is_live}
+use Rattle.tp_schedule.specs.PlannerAnswers.{CanAsk}
 use Rattle.tp_schedule.specs.declared.parts.Ask.{Ask}
 use Rattle.tp_schedule.specs.declared.parts.Plan.{Plan}
 use Rattle.tp_placing.specs.Boards.{BoardValue, past_of}
 use Rattle.tp_placing.specs.Loaded.{CanLoad, IsLoaded}
-use Rattle.tp_placing.specs.Loading.{point_count}
+use Rattle.tp_placing.specs.LoadedNet.{point_count}
 use Rattle.tp_placing.specs.Settled.{AreSettled}
-use Rattle.tp_placing.specs.Standing.{AreCaused, IsAt, IsMadeFor, StandsOn}
+use Rattle.tp_placing.specs.LoadedBoard.{AreCaused, IsAt, IsMadeFor, StandsOn}
 use Rattle.tp_placing.specs.declared.causes.EdgeCause.{EdgeCause}
 use Rattle.tp_placing.specs.declared.parts.Held.{Held}
 use Rattle.tp_base.specs.declared.edges.PointId.{PointId}

@@ -16,11 +16,11 @@ use Rattle.tp_constraints.specs.Laws.{plans_gaps, no_own}
 use Rattle.tp_constraints.specs.Numbers.{table_of, gap_by, spot_at, spot_in, IsTable, IsEdgeOf}
 use Rattle.tp_constraints.proofs.BoardNets.{load_net}
 use Rattle.tp_constraints.proofs.HopGaps.{plans-hop-gaps}
-use Rattle.tp_constraints.proofs.Hopping.{load_hops}
+use Rattle.tp_constraints.proofs.NeighbourHops.{load_hops}
 use Rattle.tp_constraints.proofs.Lists.{index-map, get-there, contains-get}
 use Rattle.tp_constraints.proofs.PointTable.{table_law}
 use Rattle.tp_constraints.proofs.ScheduleGaps.{gaps_law}
-use Rattle.tp_keeping.proofs.SayFacts.{exact_says}
+use Rattle.tp_constraints.proofs.SayFacts.{exact_says}
 use Rattle.tp_timelines.specs.Orders.{Orders, order_on, total}
 use Rattle.tp_schedule.specs.declared.parts.Ask.{Ask}
 use Rattle.tp_placing.specs.Causes.{ArePlain, IsNamedHop, IsSafe, hop_by, most_causes, step_causes}
@@ -28,9 +28,9 @@ use Rattle.tp_placing.specs.declared.causes.EdgeCause.{EdgeCause}
 use Rattle.tp_placing.specs.declared.parts.Held.{Held}
 use Rattle.tp_placing.specs.Inside.{most_edges}
 use Rattle.tp_placing.specs.Loaded.{CanLoad, IsLoaded, all_edges}
-use Rattle.tp_placing.specs.Loading.{AreIds, chains_causes, chains_edges, firsts_from, holds_on, lines_edges, plans_edges, with_plans}
+use Rattle.tp_placing.specs.LoadedNet.{AreIds, chains_causes, chains_edges, firsts_from, holds_on, lines_edges, plans_edges, with_plans}
 use Rattle.tp_placing.specs.LoadedHolds.{AreInOrder, IsHeldWithin, held_plans, is_on, ticks_in}
-use Rattle.tp_placing.specs.Standing.{AreFirsts, AreSlots, HasSmallOffsets, loaded_edges}
+use Rattle.tp_placing.specs.LoadedBoard.{AreFirsts, AreSlots, HasSmallOffsets, loaded_edges}
 use Rattle.tp_base.specs.Grows.{IsKnown}
 use Rattle.tp_placing.proofs.LoadCauses.{AreCausesFrom, causes-behind, plain-more}
 use Rattle.tp_placing.proofs.LoadHops.{AreHops, gaps-by, hops-append, durations-hops, lines-hops, durations-count, lines-count}

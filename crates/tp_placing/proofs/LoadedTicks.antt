@@ -7,7 +7,7 @@ use Rattle.tp_schedule.specs.Plans.{IsTimedPlan, plan_of, point}
 use Rattle.tp_schedule.specs.Spots.{ticks_of}
 use Rattle.tp_schedule.specs.declared.parts.Plan.{Plan}
 use Rattle.tp_schedule.proofs.CopyFacts.{plan_of-itself}
-use Rattle.tp_choices.proofs.Retiming.{retimed_ticks}
+use Rattle.tp_choices.proofs.RetimedSchedules.{retimed_ticks}
 use Rattle.tp_constraints.specs.Gaps.{low_of, cap_of, low_at, cap_at, low_in, cap_in}
 use Rattle.tp_constraints.specs.Laws.{LoadedTimes, no_own}
 use Rattle.tp_constraints.specs.Numbers.{table_of}
@@ -15,7 +15,7 @@ use Rattle.tp_schedule.proofs.Membership.{All-from_contains}
 use Rattle.tp_constraints.proofs.Bounds.{within-each}
 use Rattle.tp_constraints.proofs.ScheduleGaps.{gaps_law}
 use Rattle.tp_placing.specs.Loaded.{CanLoad}
-use Rattle.tp_placing.specs.Loading.{HasBounds, lows_of, caps_of, point_count}
+use Rattle.tp_placing.specs.LoadedNet.{HasBounds, lows_of, caps_of, point_count}
 use Rattle.tp_placing.specs.LoadedHolds.{ticks_in}
 use Rattle.tp_placing.proofs.LiveFacts.{points-few}
 use Rattle.tp_placing.proofs.LoadTable.{length-table-of, map-table, length-ticks}

@@ -20,8 +20,8 @@ use Rattle.tp_placing.specs.Causes.{ArePlain, IsNamedHop, limit_tag}
 use Rattle.tp_placing.specs.Laws.{UntouchedKeepsEndReasons, UntouchedKeepsReasons, UntouchedKeepsReasonsUpTo, MarkKeeps, UndoKeeps}
 use Rattle.tp_placing.specs.Reasons.{HasEndReason, HasReason, IsEndReason, IsReason, IsShown, with_limit}
 use Rattle.tp_placing.specs.Settled.{AreSettled}
-use Rattle.tp_placing.specs.Standing.{AreCaused, AreFirsts, IsAt, IsMadeFor, StandsOn, table_with}
-use Rattle.tp_placing.specs.Walking.{HasReasonUpTo, IsPartReason}
+use Rattle.tp_placing.specs.LoadedBoard.{AreCaused, AreFirsts, IsAt, IsMadeFor, StandsOn, table_with}
+use Rattle.tp_placing.specs.RefusedPlace.{HasReasonUpTo, IsPartReason}
 use Rattle.tp_placing.specs.declared.causes.EdgeCause.TheVariants.{Limit}
 use Rattle.tp_placing.proofs.StandFacts.{and-some, some-and}
 

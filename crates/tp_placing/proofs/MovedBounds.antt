@@ -10,8 +10,8 @@ use Rattle.tp_base.proofs.LeastFacts.{earliest-is}
 use Rattle.tp_schedule.proofs.TickLists.{length-ticks_from, ticks_from-at}
 use Rattle.tp_schedule.specs.Times.{ticks_from}
 use Rattle.tp_schedule.specs.declared.parts.Plan.{Plan}
-use Rattle.tp_placing.specs.Loading.{point_count}
-use Rattle.tp_placing.specs.Moving.{replaced, with_bounds_from}
+use Rattle.tp_placing.specs.LoadedNet.{point_count}
+use Rattle.tp_placing.specs.ClockMove.{replaced, with_bounds_from}
 use Rattle.tp_placing.proofs.LoadEdges.{drop-read}
 use Rattle.tp_placing.proofs.LoadPoints.{ticks-one}
 

@@ -9,12 +9,12 @@ use Rattle.tp_base.specs.Net.{IsLeast, Net}
 use Rattle.tp_base.specs.declared.edges.Edge.{Edge}
 use Rattle.tp_base.specs.declared.edges.PointId.{PointId}
 use Rattle.tp_machine.specs.declared.machine.Machine.{Machine}
-use Rattle.tp_schedule.specs.Planning.{last_tick}
+use Rattle.tp_schedule.specs.PlannerAnswers.{last_tick}
 use Rattle.tp_schedule.specs.Plans.{IsTimedPlan, point}
 use Rattle.tp_schedule.specs.declared.parts.Plan.{Plan}
 use Rattle.tp_timelines.specs.Orders.{Orders, order_on}
-use Rattle.tp_keeping.specs.Moments.{SayGaps}
-use Rattle.tp_keeping.proofs.SayFacts.{says_loaded, shape_says}
+use Rattle.tp_constraints.specs.Moments.{SayGaps}
+use Rattle.tp_constraints.proofs.SayFacts.{says_loaded, shape_says}
 use Rattle.tp_constraints.specs.Gaps.{cap_at, low_at}
 use Rattle.tp_constraints.specs.Hops.{no_choices}
 use Rattle.tp_constraints.specs.Laws.{no_own}
@@ -23,9 +23,9 @@ use Rattle.tp_placing.specs.Boards.{side_by_side}
 use Rattle.tp_placing.specs.Causes.{IsNamedHop, IsSafe}
 use Rattle.tp_placing.specs.Inside.{IsBoard}
 use Rattle.tp_placing.specs.Loaded.{CanLoad, IsLoaded}
-use Rattle.tp_placing.specs.Loading.{caps_of, lows_of, point_count}
-use Rattle.tp_placing.specs.Moving.{AreFurther}
-use Rattle.tp_placing.specs.Standing.{AreSlots, loaded_edges}
+use Rattle.tp_placing.specs.LoadedNet.{caps_of, lows_of, point_count}
+use Rattle.tp_placing.specs.ClockMove.{AreFurther}
+use Rattle.tp_placing.specs.LoadedBoard.{AreSlots, loaded_edges}
 use Rattle.tp_placing.specs.declared.causes.EdgeCause.{EdgeCause}
 use Rattle.tp_placing.specs.declared.parts.Begin.{Begin}
 use Rattle.tp_placing.specs.declared.parts.BoardMark.{BoardMark}

@@ -9,9 +9,9 @@ use Rattle.tp_machine.specs.declared.parts.Action.{Action}
 use Rattle.tp_machine.specs.declared.machine.Machine.{Machine}
 use Rattle.tp_schedule.specs.Answers.{KeepsFloors, KeepsHorizon}
 use Rattle.tp_schedule.specs.Choices.{Choice, placed}
-use Rattle.tp_schedule.specs.Holding.{IsHeldIn, hold_of, holds_at, runs_of}
+use Rattle.tp_schedule.specs.Holders.{IsHeldIn, hold_of, holds_at, runs_of}
 use Rattle.tp_schedule.specs.Legality.{EndsBefore, IsLegal}
-use Rattle.tp_schedule.specs.Planning.{last_tick}
+use Rattle.tp_schedule.specs.PlannerAnswers.{last_tick}
 use Rattle.tp_schedule.specs.Plans.{IsEarlier, IsTimedPlan, is_fixed, is_front, is_same_copy, plan_of, point, with_released}
 use Rattle.tp_schedule.specs.Spots.{Spot, by_begin, point_in, slot_order, slots_of, ticks_of}
 use Rattle.tp_schedule.specs.Spots.Spot.{kept, own}
@@ -24,7 +24,7 @@ use Rattle.tp_schedule.proofs.HeldModes.{spread-fewer}
 use Rattle.tp_schedule.proofs.Membership.{Contains-cons_cases, Contains-here, Contains-later}
 use Rattle.tp_schedule.proofs.Pairs.{AllPairs-cons, AllPairs-head, AllPairs-nil, AllPairs-tail}
 use Rattle.tp_schedule.proofs.TickLists.{length-ticks_from, ticks_from-at}
-use Rattle.tp_keeping.specs.Moments.{shape_of}
+use Rattle.tp_constraints.specs.Moments.{shape_of}
 use Rattle.tp_constraints.specs.Gaps.{gap, is_in_line, low_of}
 use Rattle.tp_constraints.specs.Hops.{Hop, IsHop, IsRun, hop, no_choices}
 use Rattle.tp_constraints.specs.Hops.HopKind.{order}
@@ -36,9 +36,9 @@ use Rattle.tp_placing.specs.Causes.{IsNamedHop, hop_by, kind_of, numbered}
 use Rattle.tp_placing.specs.declared.causes.EdgeCause.{EdgeCause}
 use Rattle.tp_placing.specs.declared.causes.EdgeCause.TheVariants.{Back, Forward, Limit, Line, Resource, Stop}
 use Rattle.tp_placing.specs.Loaded.{CanLoad}
-use Rattle.tp_placing.specs.Loading.{lows_of, point_count}
-use Rattle.tp_placing.specs.Moving.{AreFurther, IsFurther}
-use Rattle.tp_placing.specs.Standing.{AreFirsts}
+use Rattle.tp_placing.specs.LoadedNet.{lows_of, point_count}
+use Rattle.tp_placing.specs.ClockMove.{AreFurther, IsFurther}
+use Rattle.tp_placing.specs.LoadedBoard.{AreFirsts}
 
 -- ---- one plan with another
 further-acts : (machine : Machine) (now : ℕ) (p q : Plan) → IsFurther machine now p q → length q.acts ≡ length p.acts

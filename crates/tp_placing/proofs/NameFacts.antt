@@ -16,13 +16,13 @@ use Rattle.tp_schedule.specs.declared.parts.Plan.{Plan}
 use Rattle.tp_schedule.specs.declared.records.SheetName.{SheetName}
 use Rattle.tp_constraints.proofs.Lists.{contains-get}
 use Rattle.tp_constraints.specs.Numbers.{table_of}
-use Rattle.tp_placing.specs.declared.names.Grip.TheVariants.{Kept as KeptGrip}
-use Rattle.tp_placing.specs.declared.names.Spot.TheVariants.{Kept as KeptSpot}
+use Rattle.tp_placing.specs.declared.reason_names.Grip.TheVariants.{Kept as KeptGrip}
+use Rattle.tp_placing.specs.declared.reason_names.Spot.TheVariants.{Kept as KeptSpot}
 use Rattle.tp_placing.specs.Boards.{BoardValue}
 use Rattle.tp_placing.specs.Causes.{grip_name, name_of_plan, numbered, spot_name}
-use Rattle.tp_placing.specs.Loading.{HasPoints, firsts_from}
+use Rattle.tp_placing.specs.LoadedNet.{HasPoints, firsts_from}
 use Rattle.tp_placing.specs.LoadedHolds.{ticks_in}
-use Rattle.tp_placing.specs.Standing.{AreFirsts, Stands}
+use Rattle.tp_placing.specs.LoadedBoard.{AreFirsts, Stands}
 use Rattle.tp_placing.proofs.CauseFacts.{numbered-in}
 use Rattle.tp_placing.proofs.LoadTable.{length-table-of, length-ticks}
 use Rattle.tp_placing.proofs.LoadTicks.{count-few, firsts-rise, from-first, in-plan, some-before}

@@ -15,7 +15,7 @@ use Rattle.tp_constraints.specs.Laws.{LoadedTimes, no_own}
 use Rattle.tp_constraints.specs.Nets.{IsBoardNet, IsLoadedNet}
 use Rattle.tp_constraints.specs.Numbers.{IsEdgeOf, gap_by}
 use Rattle.tp_constraints.specs.Suffixes.{SuffixTimes, end_gaps, suffix_cap, suffix_low, with_goal}
-use Rattle.tp_constraints.proofs.Growing.{edges-step, point-step}
+use Rattle.tp_constraints.proofs.MoreEdges.{edges-step, point-step}
 use Rattle.tp_constraints.proofs.Lists.{All-split, all-by}
 use Rattle.tp_constraints.proofs.Rooms.{room-first}
 use Rattle.tp_constraints.proofs.Steps.{goal_law}

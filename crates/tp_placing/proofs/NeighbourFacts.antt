@@ -15,7 +15,7 @@ use Rattle.tp_machine.specs.declared.parts.Anchor.TheVariants.{Start, End}
 use Rattle.tp_schedule.specs.Spots.{Spot, Slot}
 use Rattle.tp_placing.specs.declared.parts.Held.{Held}
 use Rattle.tp_placing.specs.Edges.{anchor_point, hold_edge, edge_after, edge_until, edges_around, held_of, held_before, held_behind}
-use Rattle.tp_placing.specs.Standing.{AreSlots, HasSmallOffsets}
+use Rattle.tp_placing.specs.LoadedBoard.{AreSlots, HasSmallOffsets}
 use Rattle.tp_base.specs.Grows.{IsKnown}
 
 -- a hold whose points are there and whose offsets are in their range

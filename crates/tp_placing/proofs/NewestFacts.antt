@@ -5,13 +5,13 @@ use Rattle.std.proofs.lemmas.Option.{same_Some, slice_get_within}
 use Rattle.tp_base.specs.Readings.{Reading}
 use Rattle.tp_base.specs.Net.{Net}
 use Rattle.tp_machine.proofs.MachineFacts.{is_machine}
-use Rattle.tp_machine.specs.Using.{action_at}
+use Rattle.tp_machine.specs.ModuleUse.{action_at}
 use Rattle.tp_machine.specs.declared.parts.ActId.{ActId}
 use Rattle.tp_machine.specs.declared.parts.Action.{Action}
 use Rattle.tp_machine.specs.declared.parts.HoldRule.{HoldRule}
 use Rattle.tp_machine.specs.declared.machine.Machine.{Machine}
 use Rattle.tp_schedule.specs.Choices.{Choice}
-use Rattle.tp_schedule.specs.Holding.{holds_of_act}
+use Rattle.tp_schedule.specs.Holders.{holds_of_act}
 use Rattle.tp_schedule.specs.declared.parts.Ask.{Ask}
 use Rattle.tp_timelines.specs.Orders.{order_on}
 use Rattle.tp_constraints.specs.Numbers.{table_of}
@@ -20,7 +20,7 @@ use Rattle.tp_constraints.proofs.Lists.{contains-get}
 use Rattle.tp_placing.specs.Boards.{BoardValue, suffix_after}
 use Rattle.tp_placing.specs.Calls.{CanPlace}
 use Rattle.tp_placing.specs.Candidates.{IsCandidate}
-use Rattle.tp_placing.specs.Standing.{IsAtWith, IsAtHand, HasSmallOffsets, StandsOn, newest_in}
+use Rattle.tp_placing.specs.LoadedBoard.{IsAtWith, IsAtHand, HasSmallOffsets, StandsOn, newest_in}
 use Rattle.tp_placing.specs.declared.candidates.Candidate.{Candidate}
 use Rattle.tp_placing.specs.declared.parts.Step.{Step}
 use Rattle.tp_placing.proofs.StandFacts.{some-and, at-suffix}

@@ -22,7 +22,7 @@ use Rattle.tp_placing.specs.Boards.{BoardValue, suffix_after}
 use Rattle.tp_placing.specs.Causes.{ArePlain, IsNamedHop, causes_around, step_tag}
 use Rattle.tp_placing.specs.Edges.{edges_around, held_before, held_behind}
 use Rattle.tp_placing.specs.Reasons.{IsReason, IsShown}
-use Rattle.tp_placing.specs.Standing.{AreCaused, choices_of, IsAtWith, AreSlots, table_with}
+use Rattle.tp_placing.specs.LoadedBoard.{AreCaused, choices_of, IsAtWith, AreSlots, table_with}
 use Rattle.tp_placing.specs.declared.candidates.Candidate.{Candidate}
 use Rattle.tp_placing.specs.declared.causes.EdgeCause.{EdgeCause}
 use Rattle.tp_placing.specs.declared.parts.Step.{Step}

@@ -11,7 +11,7 @@ use Rattle.tp_base.specs.Net.{Net, with_point, with_edges}
 use Rattle.tp_base.specs.Refute.{Refutes}
 use Rattle.tp_constraints.proofs.Lists.{all-by}
 use Rattle.tp_placing.specs.Reasons.{IsPart, IsShown}
-use Rattle.tp_placing.specs.Walking.{IsRefused}
+use Rattle.tp_placing.specs.RefusedPlace.{IsRefused}
 
 pub part-refutes : (part whole : Net) → IsPart part whole → (p : Proof) → Refutes part p → Refutes whole p
 part-refutes part whole is (Chain first edges) late =

@@ -11,12 +11,12 @@ use Rattle.tp_base.proofs.SliceFacts.{slice_get_last}
 use Rattle.tp_base.specs.declared.edges.Edge.{Edge}
 use Rattle.tp_base.specs.Net.{Net, HasLeast, HasNoSolution, with_edges}
 use Rattle.tp_machine.specs.Modes.{gap_at}
-use Rattle.tp_machine.specs.Using.{action_at}
+use Rattle.tp_machine.specs.ModuleUse.{action_at}
 use Rattle.tp_machine.specs.declared.parts.HoldRule.{HoldRule}
 use Rattle.tp_machine.specs.declared.machine.Machine.{Machine}
 use Rattle.tp_schedule.specs.Answers.{kept_of}
 use Rattle.tp_schedule.specs.Choices.{Choice, placed}
-use Rattle.tp_schedule.specs.Holding.{holds_of_act}
+use Rattle.tp_schedule.specs.Holders.{holds_of_act}
 use Rattle.tp_schedule.specs.Spots.{Spot, Slot, Ticks, slot_order}
 use Rattle.tp_schedule.specs.Spots.Spot.{own}
 use Rattle.tp_schedule.specs.declared.parts.Ask.{Ask}
@@ -26,13 +26,13 @@ use Rattle.tp_constraints.specs.Hops.{place_hops}
 use Rattle.tp_constraints.specs.Nets.{PlaceNet, BoardLate, IsBoardNet}
 use Rattle.tp_constraints.specs.Numbers.{gap_by, table_of, IsEdgeOf}
 use Rattle.tp_constraints.specs.Suffixes.{Suffix, SuffixTimes, choice_slot, order_in, place_gaps, with_place}
-use Rattle.tp_constraints.proofs.Placing.{put_places-push}
+use Rattle.tp_constraints.proofs.PlaceGaps.{put_places-push}
 use Rattle.tp_placing.specs.declared.causes.EdgeCause.{EdgeCause}
 use Rattle.tp_placing.specs.declared.parts.Held.{Held}
 use Rattle.tp_placing.specs.declared.parts.Step.{Step}
 use Rattle.tp_placing.specs.Causes.{ArePlain, causes_around, step_tag}
 use Rattle.tp_placing.specs.Edges.{edges_around, held_before, held_behind}
-use Rattle.tp_placing.specs.Standing.{IsAtWith, IsAtHand, IsSlotOf, AreSlots, HasSmallOffsets, AreFewSteps, table_with}
+use Rattle.tp_placing.specs.LoadedBoard.{IsAtWith, IsAtHand, IsSlotOf, AreSlots, HasSmallOffsets, AreFewSteps, table_with}
 use Rattle.tp_base.specs.Grows.{IsKnown}
 use Rattle.tp_placing.proofs.CauseFacts.{AreMade}
 use Rattle.tp_placing.proofs.NeighbourFacts.{two-neighbours}

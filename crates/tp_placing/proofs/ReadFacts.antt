@@ -14,11 +14,11 @@ use Rattle.tp_constraints.specs.Gaps.{low_at}
 use Rattle.tp_constraints.specs.Laws.{no_own}
 use Rattle.tp_constraints.specs.Numbers.{IsNetFor, table_of, ticks_by}
 use Rattle.tp_constraints.specs.Suffixes.{Suffix, suffix_low}
-use Rattle.tp_constraints.proofs.Numbering.{number-at}
+use Rattle.tp_constraints.proofs.PointNumbers.{number-at}
 use Rattle.tp_constraints.proofs.Solutions.{least, solutions}
 use Rattle.tp_placing.specs.declared.parts.Held.{Held}
 use Rattle.tp_placing.specs.declared.parts.Step.{Step}
-use Rattle.tp_placing.specs.Standing.{IsAtWith, board_table, table_with}
+use Rattle.tp_placing.specs.LoadedBoard.{IsAtWith, board_table, table_with}
 use Rattle.tp_placing.proofs.TableFacts.{table-own}
 use Rattle.tp_placing.specs.Ticks.{IsLeastTick, TimesOf}
 

@@ -15,14 +15,14 @@ use Rattle.tp_constraints.specs.Nets.{BoardSolutions}
 use Rattle.tp_constraints.specs.Numbers.{ticks_by}
 use Rattle.tp_constraints.specs.Suffixes.{Suffix, SuffixTimes, suffix_cap, suffix_low}
 use Rattle.tp_constraints.proofs.Lists.{All-split}
-use Rattle.tp_constraints.proofs.Numbering.{number-at}
+use Rattle.tp_constraints.proofs.PointNumbers.{number-at}
 use Rattle.tp_placing.specs.declared.parts.Held.{Held}
 use Rattle.tp_placing.specs.declared.parts.Step.{Step}
 use Rattle.tp_placing.specs.Boards.{BoardValue, suffix_after}
 use Rattle.tp_placing.specs.Causes.{IsNamedHop, limit_tag}
 use Rattle.tp_placing.specs.Edges.{edge_of}
 use Rattle.tp_placing.specs.Reasons.{IsEndReason, with_limit}
-use Rattle.tp_placing.specs.Standing.{choices_of, IsAtWith, Stands, StandsOn, table_with}
+use Rattle.tp_placing.specs.LoadedBoard.{choices_of, IsAtWith, Stands, StandsOn, table_with}
 use Rattle.tp_placing.specs.Ticks.{HasLeastTick, IsLeastTick, TimesOf}
 use Rattle.tp_placing.proofs.PartFacts.{whole-is-part}
 use Rattle.tp_placing.proofs.ReadFacts.{end-point, known-point}

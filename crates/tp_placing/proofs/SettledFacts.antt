@@ -17,22 +17,22 @@ use Rattle.tp_schedule.specs.declared.parts.Plan.{Plan}
 use Rattle.tp_schedule.specs.declared.parts.SheetId.{SheetId}
 use Rattle.tp_schedule.proofs.CopyFacts.{plan_of-itself, same_copy-is}
 use Rattle.tp_schedule.proofs.Membership.{All-from_contains, Contains-cons_cases, Contains-here, Contains-later}
-use Rattle.tp_choices.proofs.Completing.{point-timed_by}
+use Rattle.tp_choices.proofs.CompletePlans.{point-timed_by}
 use Rattle.tp_choices.proofs.Lists.{map-same}
 use Rattle.tp_constraints.specs.Gaps.{IsPoint, low_at}
 use Rattle.tp_constraints.specs.Laws.{LoadedTimes, no_own}
 use Rattle.tp_constraints.specs.Nets.{IsLoadedNet}
 use Rattle.tp_constraints.specs.Numbers.{table_of, ticks_by}
 use Rattle.tp_constraints.proofs.Lists.{get-contains}
-use Rattle.tp_constraints.proofs.Numbering.{number-at}
+use Rattle.tp_constraints.proofs.PointNumbers.{number-at}
 use Rattle.tp_constraints.proofs.Solutions.{loaded_least, loaded_solutions}
-use Rattle.tp_keeping.specs.Adding.{with_plan}
-use Rattle.tp_keeping.proofs.PlanFacts.{loaded-less}
+use Rattle.tp_constraints.specs.AddedPlan.{with_plan}
+use Rattle.tp_constraints.proofs.PlanFacts.{loaded-less}
 use Rattle.tp_placing.specs.Boards.{BoardContent, BoardValue, side_by_side}
 use Rattle.tp_placing.specs.Loaded.{CanLoad}
 use Rattle.tp_placing.specs.Settled.{AreSettled, HasLeastPoints}
-use Rattle.tp_placing.specs.Standing.{IsAt, StandsOn}
-use Rattle.tp_placing.specs.Writing.{AreLeastTicks, is_loaded, retimed_in}
+use Rattle.tp_placing.specs.LoadedBoard.{IsAt, StandsOn}
+use Rattle.tp_placing.specs.Commits.{AreLeastTicks, is_loaded, retimed_in}
 use Rattle.tp_placing.specs.declared.parts.BoardMark.{BoardMark}
 use Rattle.tp_placing.specs.declared.parts.Held.{Held}
 use Rattle.tp_placing.specs.declared.parts.Step.{Step}

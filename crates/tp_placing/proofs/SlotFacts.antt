@@ -15,7 +15,7 @@ use Rattle.tp_constraints.specs.Numbers.{spot_at, gap_by}
 use Rattle.tp_constraints.specs.Suffixes.{gap_after, gap_until, before_place, place_gaps}
 use Rattle.tp_placing.specs.declared.parts.Held.{Held}
 use Rattle.tp_placing.specs.Edges.{anchor_point, hold_edge, edge_after, edge_until, edges_around, held_of, held_before, held_behind}
-use Rattle.tp_placing.specs.Standing.{IsSlotOf, AreSlots}
+use Rattle.tp_placing.specs.LoadedBoard.{IsSlotOf, AreSlots}
 
 -- a longer table and more holds
 pub slot-grown : (table more : List Spot) (held others : List Held) (id : ℕ) (s : Slot) → IsSlotOf table held id s → IsSlotOf (table ++ more) (held ++ others) id s

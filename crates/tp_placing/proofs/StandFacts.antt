@@ -18,7 +18,7 @@ use Rattle.tp_placing.specs.declared.parts.Held.{Held}
 use Rattle.tp_placing.specs.declared.parts.Step.{Step}
 use Rattle.tp_placing.specs.Boards.{BoardValue, suffix_after, past_of, side_by_side}
 use Rattle.tp_placing.specs.Inside.{most_steps}
-use Rattle.tp_placing.specs.Standing.{AreCaused, IsAtWith, IsAt, StandsOn, table_with, step_edges, loaded_edges}
+use Rattle.tp_placing.specs.LoadedBoard.{AreCaused, IsAtWith, IsAt, StandsOn, table_with, step_edges, loaded_edges}
 use Rattle.tp_placing.proofs.CauseFacts.{Keeps, caused-kept, plain-kept}
 use Rattle.tp_placing.proofs.PastFacts.{short-past}
 use Rattle.tp_placing.proofs.TableFacts.{length-table}

@@ -12,7 +12,7 @@ use Rattle.tp_placing.specs.declared.parts.Change.{Change}
 use Rattle.tp_placing.specs.declared.parts.Change.TheVariants.{Goal, Action, Place, Stop}
 use Rattle.tp_placing.specs.declared.parts.Step.{Step}
 use Rattle.tp_placing.specs.Boards.{after_change, suffix_after}
-use Rattle.tp_placing.specs.Standing.{IsAtHand, step_edges}
+use Rattle.tp_placing.specs.LoadedBoard.{IsAtHand, step_edges}
 
 pub suffix-push : (steps : List Step) (s : Step) → suffix_after (steps ++ s ∷ []) ≡ after_change (suffix_after steps) s.change
 suffix-push steps s = fold-append (λ x (s : Step). after_change x s.change) None steps (s ∷ [])

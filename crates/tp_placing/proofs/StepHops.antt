@@ -22,7 +22,7 @@ use Rattle.tp_placing.specs.declared.causes.EdgeCause.TheVariants.{Line}
 use Rattle.tp_placing.specs.declared.parts.Held.{Held}
 use Rattle.tp_placing.specs.Causes.{ArePlain, IsSafe, cause_between, causes_around, hop_by, kind_of, line_tag, step_tag, step_causes, stop_tag}
 use Rattle.tp_placing.specs.Edges.{duration_edges, edge_of, edge_after, edge_until, edges_around, held_before, held_behind, hold_edge}
-use Rattle.tp_placing.specs.Standing.{AreSlots, table_with}
+use Rattle.tp_placing.specs.LoadedBoard.{AreSlots, table_with}
 use Rattle.tp_placing.proofs.CauseFacts.{AreMade, IsSafeTag, numbered-in, before-around, behind-around, length-around}
 use Rattle.tp_placing.proofs.SlotFacts.{AtPlace, slots-at, slots-before, hold-gap}
 use Rattle.tp_placing.proofs.SlotFacts.AtPlace.{none, some}

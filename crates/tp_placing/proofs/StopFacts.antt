@@ -22,7 +22,7 @@ use Rattle.tp_constraints.specs.Nets.{StopNet, BoardLate}
 use Rattle.tp_constraints.specs.Suffixes.{Suffix, SuffixTimes, IsInFlight, stop_gaps, with_stop}
 use Rattle.tp_placing.specs.declared.parts.Held.{Held}
 use Rattle.tp_placing.specs.declared.parts.Step.{Step}
-use Rattle.tp_placing.specs.Standing.{AreCaused, choices_of, StandsOn, IsAtWith, IsAtHand, table_with, AreFewSteps}
+use Rattle.tp_placing.specs.LoadedBoard.{AreCaused, choices_of, StandsOn, IsAtWith, IsAtHand, table_with, AreFewSteps}
 use Rattle.std.specs.List.{slice_get}
 use Rattle.std.proofs.lemmas.Option.{slice_get_within}
 use Rattle.tp_base.specs.declared.edges.PointId.{PointId}

@@ -19,7 +19,7 @@ use Rattle.tp_placing.specs.declared.parts.Step.{Step}
 use Rattle.tp_placing.specs.Boards.{suffix_after}
 use Rattle.tp_placing.specs.Causes.{IsNamedHop, IsSafe}
 use Rattle.tp_placing.specs.Reasons.{IsShown}
-use Rattle.tp_placing.specs.Standing.{AreCaused, IsAtWith, choices_of}
+use Rattle.tp_placing.specs.LoadedBoard.{AreCaused, IsAtWith, choices_of}
 
 pub swapped : (xs ys : List Edge) → All (Contains (ys ++ xs)) (xs ++ ys)
 swapped xs ys = All-append (Contains (ys ++ xs)) xs ys

@@ -13,7 +13,7 @@ use Rattle.tp_schedule.specs.Spots.Spot.{kept, own}
 use Rattle.tp_schedule.specs.declared.parts.Plan.{Plan}
 use Rattle.tp_schedule.specs.declared.parts.SheetId.{SheetId}
 use Rattle.tp_constraints.specs.Numbers.{points_from, table_of}
-use Rattle.tp_placing.specs.Standing.{AreFirsts, table_with}
+use Rattle.tp_placing.specs.LoadedBoard.{AreFirsts, table_with}
 
 pub length-points : (copy : SheetId) (i n : ℕ) → length (points_from copy i n) ≡ suc n
 length-points copy i zero = refl

@@ -26,10 +26,10 @@ use Rattle.tp_placing.specs.Boards.{BoardValue, suffix_after}
 use Rattle.tp_placing.specs.Causes.{ArePlain, IsNamedHop, step_tag}
 use Rattle.tp_placing.specs.Edges.{edge_after, edge_until, edges_around, edges_back, hold_edge, held_before, held_behind}
 use Rattle.tp_placing.specs.Reasons.{IsReason}
-use Rattle.tp_placing.specs.Standing.{AreCaused, IsAtWith, choices_of, table_with}
+use Rattle.tp_placing.specs.LoadedBoard.{AreCaused, IsAtWith, choices_of, table_with}
 use Rattle.tp_base.specs.Grows.{IsKnown}
-use Rattle.tp_placing.specs.Walking.{IsRefused}
-use Rattle.tp_placing.specs.Walking.{IsPartReason}
+use Rattle.tp_placing.specs.RefusedPlace.{IsRefused}
+use Rattle.tp_placing.specs.RefusedPlace.{IsPartReason}
 use Rattle.tp_placing.proofs.CauseFacts.{AreMade, IsSafeTag, behind-around, hops-more, length-around}
 use Rattle.tp_placing.proofs.NeighbourFacts.{can-neighbours}
 use Rattle.tp_placing.proofs.NewestFacts.{IsNext, offsets, order, places, suffix}

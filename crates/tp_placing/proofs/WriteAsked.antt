@@ -11,7 +11,7 @@ use Rattle.tp_machine.specs.declared.parts.ActId.{ActId}
 use Rattle.tp_schedule.specs.Choices.{Choice, acts_of}
 use Rattle.tp_constraints.specs.Suffixes.{Suffix, place_first, with_action, with_goal, with_place, with_stop}
 use Rattle.tp_placing.specs.Boards.{after_change, suffix_after}
-use Rattle.tp_placing.specs.Writing.{opened, opened_by}
+use Rattle.tp_placing.specs.Commits.{opened, opened_by}
 use Rattle.tp_placing.specs.declared.parts.Change.{Change}
 use Rattle.tp_placing.specs.declared.parts.Change.TheVariants.{Goal, Action, Place, Stop}
 use Rattle.tp_placing.specs.declared.parts.Step.{Step}

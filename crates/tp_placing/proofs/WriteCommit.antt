@@ -5,8 +5,8 @@ use Rattle.tp_machine.specs.declared.machine.Machine.{Machine}
 use Rattle.tp_schedule.specs.Answers.{IsAlternative, IsAsked, IsLeast, follows_front}
 use Rattle.tp_schedule.specs.Choices.{Choice}
 use Rattle.tp_schedule.specs.Completions.{answered, asked_plan, settled_ticks, total_of}
-use Rattle.tp_schedule.specs.Living.{is_live}
-use Rattle.tp_schedule.specs.Planning.{CanAsk}
+use Rattle.tp_schedule.specs.LivePlans.{is_live}
+use Rattle.tp_schedule.specs.PlannerAnswers.{CanAsk}
 use Rattle.tp_schedule.specs.Plans.{IsEarlier, end_of_plan, put_plan, without}
 use Rattle.tp_schedule.specs.Spots.{Spot, Ticks}
 use Rattle.tp_schedule.specs.Spots.Spot.{own}
@@ -20,7 +20,7 @@ use Rattle.tp_constraints.specs.Nets.{IsBoardNet}
 use Rattle.tp_constraints.specs.Numbers.{number, ticks_by}
 use Rattle.tp_constraints.specs.Suffixes.{Suffix}
 use Rattle.tp_constraints.proofs.LeastSolutions.{commit_law}
-use Rattle.tp_placing.specs.Writing.{CanCommit, IsHeldFrom, retimed_in}
+use Rattle.tp_placing.specs.Commits.{CanCommit, IsHeldFrom, retimed_in}
 use Rattle.tp_placing.proofs.WriteHeld.{IsAnswered, answered-on_live, asked_plan-alive}
 use Rattle.tp_placing.proofs.WriteJoined.{joined}
 use Rattle.tp_placing.proofs.WriteLive.{gone, may-ask, may-forget, put-of}

@@ -13,7 +13,7 @@ use Rattle.tp_machine.specs.declared.machine.Machine.{Machine}
 use Rattle.tp_schedule.specs.Answers.{IsAlternative, IsLeast, acts_in, follows_front, kept_acts, kept_of}
 use Rattle.tp_schedule.specs.Choices.{Choice, acts_of}
 use Rattle.tp_schedule.specs.Completions.{answered, asked_plan, settled_ticks, total_of}
-use Rattle.tp_schedule.specs.Living.{is_live}
+use Rattle.tp_schedule.specs.LivePlans.{is_live}
 use Rattle.tp_schedule.specs.Plans.{IsEarlier, IsTimedPlan, end_of_plan, is_same_copy, plan_of, point, put_plan, with_points, without}
 use Rattle.tp_schedule.specs.Spots.{Ticks}
 use Rattle.tp_schedule.specs.Spots.Spot.{kept}
@@ -24,22 +24,22 @@ use Rattle.tp_schedule.specs.declared.parts.SheetId.{SheetId}
 use Rattle.tp_schedule.proofs.CopyFacts.{plan_of-itself, same_copy-is}
 use Rattle.tp_schedule.proofs.Membership.{Contains-filter, Contains-filter_from}
 use Rattle.tp_choices.specs.LiveParts.{less}
-use Rattle.tp_choices.proofs.Joining.{live_is_least}
+use Rattle.tp_choices.proofs.RejoinedPlans.{live_is_least}
 use Rattle.tp_choices.proofs.LiveOrders.{others_of}
 use Rattle.tp_choices.proofs.Parts.{filter-swap}
 use Rattle.tp_choices.proofs.PointFacts.{past-fixed}
-use Rattle.tp_choices.proofs.Staying.{plan_of-staying}
+use Rattle.tp_choices.proofs.StayingPlans.{plan_of-staying}
 use Rattle.tp_choices.proofs.WholeAnswers.{whole_answers}
 use Rattle.tp_constraints.specs.Nets.{IsBoardNet}
 use Rattle.tp_constraints.specs.Numbers.{table_of}
 use Rattle.tp_constraints.specs.Suffixes.{Suffix}
 use Rattle.tp_constraints.proofs.Lists.{get-contains}
-use Rattle.tp_constraints.proofs.Numbering.{number-at}
+use Rattle.tp_constraints.proofs.PointNumbers.{number-at}
 use Rattle.tp_constraints.proofs.PointTable.{table_law}
 use Rattle.tp_constraints.proofs.Solutions.{board_solutions}
 use Rattle.tp_placing.specs.Settled.{AreOfSchedule, HasLeastPoints}
-use Rattle.tp_placing.specs.Standing.{board_table, own_points}
-use Rattle.tp_placing.specs.Writing.{AreLeastTicks, CanPut, IsHeldFrom}
+use Rattle.tp_placing.specs.LoadedBoard.{board_table, own_points}
+use Rattle.tp_placing.specs.Commits.{AreLeastTicks, CanPut, IsHeldFrom}
 use Rattle.tp_placing.proofs.SettledFacts.{ticks-read}
 use Rattle.tp_placing.proofs.TableFacts.{table-left}
 use Rattle.tp_placing.proofs.WriteJoined.{filter-map, filter-put}

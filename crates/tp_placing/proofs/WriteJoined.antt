@@ -5,8 +5,8 @@ use Rattle.std.proofs.lemmas.List.Kept.{AllPairs-filter}
 use Rattle.tp_machine.specs.declared.machine.Machine.{Machine}
 use Rattle.tp_schedule.specs.Choices.{Choice}
 use Rattle.tp_schedule.specs.Completions.{answered, asked_plan, settled_ticks, total_of}
-use Rattle.tp_schedule.specs.Living.{is_live}
-use Rattle.tp_schedule.specs.Planning.{CanAsk, CanPlanOn}
+use Rattle.tp_schedule.specs.LivePlans.{is_live}
+use Rattle.tp_schedule.specs.PlannerAnswers.{CanAsk, CanPlanOn}
 use Rattle.tp_schedule.specs.Plans.{IsEarlier, is_before, is_same_copy, put_plan, with_points, without}
 use Rattle.tp_schedule.specs.Spots.{Ticks}
 use Rattle.tp_schedule.specs.Times.{at, timed_by}
@@ -17,10 +17,10 @@ use Rattle.tp_schedule.proofs.CopyFacts.{before-trans, same_copy-is}
 use Rattle.tp_schedule.proofs.Membership.{All-from_contains, Contains-filter_from, Contains-here, Contains-later}
 use Rattle.tp_schedule.proofs.Pairs.{AllPairs-head, AllPairs-tail}
 use Rattle.tp_choices.specs.LiveParts.{IsJoined, less, only}
-use Rattle.tp_choices.proofs.Joining.{filter-put_out}
+use Rattle.tp_choices.proofs.RejoinedPlans.{filter-put_out}
 use Rattle.tp_choices.proofs.Lists.{filter-all}
 use Rattle.tp_choices.proofs.Parts.{filter-swap}
-use Rattle.tp_placing.specs.Writing.{retimed_in}
+use Rattle.tp_placing.specs.Commits.{retimed_in}
 use Rattle.tp_placing.proofs.WriteLive.{gone, may-forget, put-of, stays}
 use Rattle.tp_placing.proofs.WriteTimes.{ticks-same}
 use Rattle.tp_placing.proofs.WritePlans.{in_order-retimed, retimed-is, retimed-not, retimed-sheet}

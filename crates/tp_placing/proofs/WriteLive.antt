@@ -6,9 +6,9 @@ use Rattle.std.proofs.lemmas.Bool.Decides.{nat_tests}
 use Rattle.std.proofs.lemmas.List.Elements.{All-contains}
 use Rattle.tp_machine.specs.declared.machine.Machine.{Machine}
 use Rattle.tp_schedule.specs.Answers.{IsAskedFrom}
-use Rattle.tp_schedule.specs.Living.{is_held_after, is_live}
-use Rattle.tp_schedule.specs.Holding.{runs_of}
-use Rattle.tp_schedule.specs.Planning.{CanAsk, CanPlanOn, HasTimeFrom, IsOpenGoal}
+use Rattle.tp_schedule.specs.LivePlans.{is_held_after, is_live}
+use Rattle.tp_schedule.specs.Holders.{runs_of}
+use Rattle.tp_schedule.specs.PlannerAnswers.{CanAsk, CanPlanOn, HasTimeFrom, IsOpenGoal}
 use Rattle.tp_schedule.specs.Plans.{IsTimedPlan, goes_to, is_before, is_delivered_to, is_same_copy, plan_of, point}
 use Rattle.tp_schedule.specs.declared.parts.Ask.{Ask}
 use Rattle.tp_schedule.specs.declared.parts.Goal.{Goal}
@@ -20,7 +20,7 @@ use Rattle.tp_schedule.specs.declared.parts.SheetId.{SheetId}
 use Rattle.tp_schedule.proofs.CopyFacts.{before-other, plan_of-itself, same_copy-is}
 use Rattle.tp_choices.proofs.PlansOf.{plan_of-contains}
 use Rattle.tp_choices.specs.LiveParts.{EndsAhead, MayAskBeside, MayForget}
-use Rattle.tp_placing.specs.Writing.{CanPut}
+use Rattle.tp_placing.specs.Commits.{CanPut}
 use Rattle.tp_placing.proofs.WritePlans.{or-true}
 
 -- a plan with a point above the moment is live

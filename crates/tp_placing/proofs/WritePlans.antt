@@ -10,7 +10,7 @@ use Rattle.tp_schedule.specs.Times.{at, ticks_from, timed_by}
 use Rattle.tp_schedule.specs.Plans.{IsEarlier, change_plan, is_before, is_same_copy, plan_of, with_points}
 use Rattle.tp_schedule.specs.declared.parts.Plan.{Plan}
 use Rattle.tp_schedule.specs.declared.parts.SheetId.{SheetId}
-use Rattle.tp_placing.specs.Writing.{is_loaded, retimed_in}
+use Rattle.tp_placing.specs.Commits.{is_loaded, retimed_in}
 
 -- a plan that has the points already
 pub change-same : (copy : SheetId) (points : List ℕ) (plans : List Plan) (p : Plan) → plan_of copy plans ≡ Some p → points ≡ p.points → plans ≡ change_plan copy (with_points points) plans

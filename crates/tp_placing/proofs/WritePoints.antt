@@ -13,8 +13,8 @@ use Rattle.tp_schedule.specs.declared.parts.Plan.{Plan}
 use Rattle.tp_schedule.proofs.CopyFacts.{same_copy-refl}
 use Rattle.tp_constraints.specs.Numbers.{table_of}
 use Rattle.tp_constraints.specs.Suffixes.{Suffix}
-use Rattle.tp_placing.specs.Standing.{board_table, own_points}
-use Rattle.tp_placing.specs.Writing.{AreLeastTicks, back_from}
+use Rattle.tp_placing.specs.LoadedBoard.{board_table, own_points}
+use Rattle.tp_placing.specs.Commits.{AreLeastTicks, back_from}
 use Rattle.tp_placing.proofs.TableFacts.{table-left, table-own}
 use Rattle.tp_placing.proofs.WriteTimes.{ticks-append, ticks-same}
 

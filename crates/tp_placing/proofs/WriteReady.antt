@@ -14,11 +14,11 @@ use Rattle.tp_schedule.specs.declared.parts.Plan.{Plan}
 use Rattle.tp_schedule.proofs.Membership.{All-from_contains}
 use Rattle.tp_constraints.specs.Numbers.{table_of, ticks_by}
 use Rattle.tp_constraints.specs.Suffixes.{Suffix}
-use Rattle.tp_constraints.proofs.Numbering.{number-at}
+use Rattle.tp_constraints.proofs.PointNumbers.{number-at}
 use Rattle.tp_placing.specs.declared.parts.Step.{Step}
 use Rattle.tp_placing.specs.Boards.{BoardValue, suffix_after}
-use Rattle.tp_placing.specs.Standing.{IsAtHand, IsAtWith, StandsOn, board_table}
-use Rattle.tp_placing.specs.Writing.{AreLeastTicks, CanCommit}
+use Rattle.tp_placing.specs.LoadedBoard.{IsAtHand, IsAtWith, StandsOn, board_table}
+use Rattle.tp_placing.specs.Commits.{AreLeastTicks, CanCommit}
 use Rattle.tp_placing.proofs.StandFacts.{at-suffix, length-lows, some-and}
 
 pub record IsReady {N : Type 0} (net : N → Net) (b : BoardValue N) (machine : Machine) (ask : Ask) (newest : Step) : Type 0 where

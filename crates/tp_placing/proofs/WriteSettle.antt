@@ -4,8 +4,8 @@ use Rattle.std.proofs.lemmas.List.Sums.{length-filter}
 use Rattle.tp_base.specs.Net.{Net, IsLeast as IsLeastSolution}
 use Rattle.tp_machine.specs.declared.machine.Machine.{Machine}
 use Rattle.tp_schedule.specs.Answers.{IsLeast, IsRetimed}
-use Rattle.tp_schedule.specs.Living.{is_live}
-use Rattle.tp_schedule.specs.Planning.{CanSettle, IsSettled, none_exempt}
+use Rattle.tp_schedule.specs.LivePlans.{is_live}
+use Rattle.tp_schedule.specs.PlannerAnswers.{CanSettle, IsSettled, none_exempt}
 use Rattle.tp_schedule.specs.Spots.{Spot, Ticks}
 use Rattle.tp_schedule.specs.Times.{timed_by}
 use Rattle.tp_schedule.specs.declared.parts.Plan.{Plan}
@@ -17,10 +17,10 @@ use Rattle.tp_choices.proofs.LiveTimes.{live_retimes, whole_is_least}
 use Rattle.tp_constraints.specs.Nets.{IsLoadedNet}
 use Rattle.tp_constraints.specs.Numbers.{table_of, ticks_by}
 use Rattle.tp_constraints.proofs.LeastSolutions.{settle_law}
-use Rattle.tp_constraints.proofs.Numbering.{number-at}
+use Rattle.tp_constraints.proofs.PointNumbers.{number-at}
 use Rattle.tp_placing.specs.Loaded.{CanLoad, IsLoaded}
 use Rattle.tp_placing.specs.Settled.{AreOfSchedule}
-use Rattle.tp_placing.specs.Writing.{AreLeastTicks, retimed_in}
+use Rattle.tp_placing.specs.Commits.{AreLeastTicks, retimed_in}
 use Rattle.tp_placing.proofs.LivePlans.{can-load}
 use Rattle.tp_placing.proofs.LoadedTicks.{points-fit}
 use Rattle.tp_placing.proofs.WriteJoined.{joined-times}

@@ -10,11 +10,11 @@ use Rattle.tp_schedule.specs.Spots.Spot.{kept}
 use Rattle.tp_schedule.specs.Times.{at, ticks_from}
 use Rattle.tp_schedule.specs.declared.parts.Plan.{Plan}
 use Rattle.tp_constraints.specs.Numbers.{table_of, ticks_by}
-use Rattle.tp_constraints.proofs.Numbering.{number-at}
+use Rattle.tp_constraints.proofs.PointNumbers.{number-at}
 use Rattle.tp_constraints.proofs.PointTable.{table_law}
 use Rattle.tp_placing.specs.Settled.{AreLeastFrom, HasLeastPoints}
-use Rattle.tp_placing.specs.Standing.{AreFirsts}
-use Rattle.tp_placing.specs.Writing.{AreLeastTicks}
+use Rattle.tp_placing.specs.LoadedBoard.{AreFirsts}
+use Rattle.tp_placing.specs.Commits.{AreLeastTicks}
 use Rattle.tp_placing.proofs.TableFacts.{begins-at, length-firsts}
 
 -- one number more, at the end

@@ -5,8 +5,8 @@ use Rattle.std.proofs.lemmas.List.Elements.{All-contains}
 use Rattle.std.proofs.lemmas.Option.{same_Some}
 use Rattle.tp_machine.specs.declared.machine.Machine.{Machine}
 use Rattle.tp_schedule.specs.Answers.{IsAlternative, IsAskedFrom, follows_front, kept_from, kept_of}
-use Rattle.tp_schedule.specs.Living.{is_live}
-use Rattle.tp_schedule.specs.Planning.{CanPlanOn, HasTimeFrom}
+use Rattle.tp_schedule.specs.LivePlans.{is_live}
+use Rattle.tp_schedule.specs.PlannerAnswers.{CanPlanOn, HasTimeFrom}
 use Rattle.tp_schedule.specs.Plans.{IsTimedPlan, is_same_copy, plan_of, point}
 use Rattle.tp_schedule.specs.declared.parts.Ask.{Ask}
 use Rattle.tp_schedule.specs.declared.parts.Origin.{Origin}
@@ -18,7 +18,7 @@ use Rattle.tp_schedule.proofs.Membership.{Contains-cons_cases, Contains-filter, 
 use Rattle.tp_choices.proofs.PlansOf.{plan_of-contains}
 use Rattle.tp_choices.proofs.PointFacts.{point-le}
 use Rattle.tp_choices.specs.LiveParts.{IsJoined, MayForget, less, only}
-use Rattle.tp_placing.specs.Writing.{CanPut, is_loaded}
+use Rattle.tp_placing.specs.Commits.{CanPut, is_loaded}
 use Rattle.tp_placing.proofs.WriteLive.{gone, gone-of, may-forget}
 use Rattle.tp_placing.proofs.WritePlans.{or-true}
 

@@ -17,12 +17,12 @@ use Rattle.tp_constraints.specs.Numbers.{table_of}
 use Rattle.tp_constraints.specs.Suffixes.{Suffix}
 use Rattle.tp_placing.specs.declared.causes.EdgeCause.{EdgeCause}
 use Rattle.tp_placing.specs.declared.causes.EdgeCause.TheVariants.{Forward, Back, Line, Stop, Limit, Resource}
-use Rattle.tp_placing.specs.declared.names.Grip.{Grip}
-use Rattle.tp_placing.specs.declared.names.Grip.TheVariants.{Own as OwnGrip, Kept as KeptGrip}
-use Rattle.tp_placing.specs.declared.names.Spot.{Spot as SpotName}
-use Rattle.tp_placing.specs.declared.names.Spot.TheVariants.{Own as OwnSpot, Kept as KeptSpot, Limit as LimitSpot}
-use Rattle.tp_placing.specs.declared.names.Why.{Why}
-use Rattle.tp_placing.specs.declared.names.Why.TheVariants.{Forward as WhyForward, Back as WhyBack, Line as WhyLine, Resource as WhyResource, Stop as WhyStop, Limit as WhyLimit}
+use Rattle.tp_placing.specs.declared.reason_names.Grip.{Grip}
+use Rattle.tp_placing.specs.declared.reason_names.Grip.TheVariants.{Own as OwnGrip, Kept as KeptGrip}
+use Rattle.tp_placing.specs.declared.reason_names.Spot.{Spot as SpotName}
+use Rattle.tp_placing.specs.declared.reason_names.Spot.TheVariants.{Own as OwnSpot, Kept as KeptSpot, Limit as LimitSpot}
+use Rattle.tp_placing.specs.declared.reason_names.Why.{Why}
+use Rattle.tp_placing.specs.declared.reason_names.Why.TheVariants.{Forward as WhyForward, Back as WhyBack, Line as WhyLine, Resource as WhyResource, Stop as WhyStop, Limit as WhyLimit}
 use Rattle.tp_placing.specs.declared.parts.Held.{Held}
 
 -- the tags of the causes without a resource. Behind them stand two causes for each step, and then those of loaded orders

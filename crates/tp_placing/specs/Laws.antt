@@ -9,8 +9,8 @@ use Rattle.tp_constraints.specs.Suffixes.{Suffix}
 use Rattle.tp_placing.specs.Boards.{BoardValue, content_of, untouched_of, past_of}
 use Rattle.tp_placing.specs.Causes.{numbered}
 use Rattle.tp_placing.specs.Reasons.{HasReason, HasEndReason}
-use Rattle.tp_placing.specs.Standing.{Stands, table_with}
-use Rattle.tp_placing.specs.Walking.{HasReasonUpTo}
+use Rattle.tp_placing.specs.LoadedBoard.{Stands, table_with}
+use Rattle.tp_placing.specs.RefusedPlace.{HasReasonUpTo}
 
 module _ {N A : Type 0} (reading : Reading N) (untouched : N → A) where
   -- a board that stands on a machine stands on it after a mark

@@ -6,12 +6,12 @@ use Rattle.tp_base.specs.declared.edges.PointId.{PointId}
 use Rattle.tp_machine.specs.declared.machine.Machine.{Machine}
 use Rattle.tp_schedule.specs.Answers.{KeepsHorizon}
 use Rattle.tp_schedule.specs.Limits.{most_live}
-use Rattle.tp_schedule.specs.Planning.{last_tick}
+use Rattle.tp_schedule.specs.PlannerAnswers.{last_tick}
 use Rattle.tp_schedule.specs.Spots.{slot_order}
 use Rattle.tp_schedule.specs.declared.parts.Ask.{Ask}
 use Rattle.tp_schedule.specs.declared.parts.Plan.{Plan}
 use Rattle.tp_timelines.specs.Orders.{order_on, total}
-use Rattle.tp_keeping.specs.Moments.{SayGaps}
+use Rattle.tp_constraints.specs.Moments.{SayGaps}
 use Rattle.tp_constraints.specs.Hops.{no_choices}
 use Rattle.tp_constraints.specs.Laws.{IsLoadable}
 use Rattle.tp_constraints.specs.Nets.{IsLoadedNet}
@@ -19,8 +19,8 @@ use Rattle.tp_constraints.specs.Numbers.{table_of}
 use Rattle.tp_placing.specs.Causes.{ArePlain, IsNamedHop, IsSafe, step_causes}
 use Rattle.tp_placing.specs.declared.causes.EdgeCause.{EdgeCause}
 use Rattle.tp_placing.specs.declared.parts.Held.{Held}
-use Rattle.tp_placing.specs.Loading.{plans_edges, lines_edges, chains_edges, holds_on}
-use Rattle.tp_placing.specs.Standing.{AreFirsts, AreSlots, HasSmallOffsets, loaded_edges, loaded_holds}
+use Rattle.tp_placing.specs.LoadedNet.{plans_edges, lines_edges, chains_edges, holds_on}
+use Rattle.tp_placing.specs.LoadedBoard.{AreFirsts, AreSlots, HasSmallOffsets, loaded_edges, loaded_holds}
 
 -- plans that can be loaded at the moment
 pub record CanLoad (machine : Machine) (now : ℕ) (plans : List Plan) : Type 0 where

@@ -11,7 +11,7 @@ use Rattle.tp_placing.specs.Boards.{BoardValue}
 use Rattle.tp_placing.specs.Causes.{IsNamedHop, limit_tag}
 use Rattle.tp_placing.specs.declared.causes.EdgeCause.TheVariants.{Limit}
 use Rattle.tp_placing.specs.Edges.{edge_of}
-use Rattle.tp_placing.specs.Standing.{table_with}
+use Rattle.tp_placing.specs.LoadedBoard.{table_with}
 
 -- a network with the same points, whose least times are no later, and with some of the edges
 pub record IsPart (part whole : Net) : Type 0 where

@@ -9,7 +9,7 @@ use Rattle.tp_schedule.specs.Times.{ticks_from, timed_by}
 use Rattle.tp_schedule.specs.declared.parts.Plan.{Plan}
 use Rattle.tp_constraints.specs.Laws.{LoadedTimes}
 use Rattle.tp_constraints.specs.Numbers.{table_of}
-use Rattle.tp_placing.specs.Writing.{AreLeastTicks}
+use Rattle.tp_placing.specs.Commits.{AreLeastTicks}
 
 -- the plans may have their own ticks at the moment, and no earlier ones
 pub record AreSettled (machine : Machine) (now : ℕ) (plans : List Plan) : Type 0 where

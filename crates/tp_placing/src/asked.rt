@@ -11,11 +11,11 @@ ghost use Rattle.tp_schedule.specs.Times.{ticks_from, timed_by};
 ghost use Rattle.tp_constraints.specs.Numbers.{table_of};
 ghost use Rattle.tp_constraints.specs.Suffixes.{Suffix};
 ghost use Rattle.tp_placing.specs.Boards.{suffix_after};
-ghost use Rattle.tp_placing.specs.Standing.{AreFirsts, board_table};
-ghost use Rattle.tp_placing.specs.Writing.{AreLeastTicks, back_from, opened};
+ghost use Rattle.tp_placing.specs.LoadedBoard.{AreFirsts, board_table};
+ghost use Rattle.tp_placing.specs.Commits.{AreLeastTicks, back_from, opened};
 
 use crate::parts::{Change, Step};
-use crate::writing::times_from;
+use crate::schedule_times::times_from;
 use tp_base::{Network, PointId};
 use tp_schedule::{Acts, Ask, Kind, Plan, Points, SheetId, copy_place};
 

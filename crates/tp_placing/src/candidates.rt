@@ -6,7 +6,7 @@ ghost use Rattle.tp_placing.specs.Calls.{CanPlace};
 ghost use Rattle.tp_placing.specs.Candidates.{HasInserted, IsCandidate};
 ghost use Rattle.tp_placing.specs.Causes.{step_causes};
 ghost use Rattle.tp_placing.specs.Inside.{most_holds};
-ghost use Rattle.tp_placing.specs.Standing.{Stands};
+ghost use Rattle.tp_placing.specs.LoadedBoard.{Stands};
 
 use crate::board::Board;
 use crate::causes::step_tag;

@@ -3,7 +3,7 @@ ghost use Rattle.std.specs.Prelude.{◌≡◌, ℕ, ◌+◌, ◌<◌, ◌≤◌,
 ghost use Rattle.tp_machine.specs.Limits.{most_resources};
 ghost use Rattle.tp_timelines.specs.Orders.{order_on};
 ghost use Rattle.tp_placing.specs.Causes.{most_causes};
-ghost use Rattle.tp_placing.specs.Loading.{AreIds, chain_causes, chain_edges, chains_causes, chains_edges, holds_on};
+ghost use Rattle.tp_placing.specs.LoadedNet.{AreIds, chain_causes, chain_edges, chains_causes, chains_edges, holds_on};
 
 use crate::causes::{Causes, between};
 use crate::edges::following;

@@ -1,14 +1,14 @@
 //! The edges of a schedule that is loaded, which its own ticks keep: the durations of its actions, and the order in which the
 //! plans of a line end.
 ghost use Rattle.std.specs.Prelude.{◌≡◌, ◌+◌, ◌<◌, ◌≤◌, ◌^◌, ◌++◌, length, vec_len, vec_capacity};
-ghost use Rattle.tp_machine.specs.Using.{action_at};
+ghost use Rattle.tp_machine.specs.ModuleUse.{action_at};
 ghost use Rattle.tp_constraints.specs.Gaps.{is_same_line};
 ghost use Rattle.tp_placing.specs.Edges.{line_edge};
-ghost use Rattle.tp_placing.specs.Loading.{act_edges, acts_edges, lines_edges, next_end, plans_edges, point_count};
+ghost use Rattle.tp_placing.specs.LoadedNet.{act_edges, acts_edges, lines_edges, next_end, plans_edges, point_count};
 
 use crate::causes::LINE;
 use crate::edges::{edge_between, lasting};
-use crate::lining::goes_along;
+use crate::tray_neighbours::goes_along;
 use tp_base::{Edge, PointId};
 use tp_machine::{ActId, Machine};
 use tp_schedule::{Kind, Plan};

@@ -1,12 +1,12 @@
 //! A schedule's live plans as a network with orders.
 ghost use Rattle.std.specs.Prelude.{◌≡◌, ℕ, ◌+◌, ◌<◌, ◌≤◌, ◌^◌, ◌++◌, [], None, length, filter, vec_len, vec_capacity};
-ghost use Rattle.tp_schedule.specs.Living.{is_live};
+ghost use Rattle.tp_schedule.specs.LivePlans.{is_live};
 ghost use Rattle.tp_timelines.specs.Orders.{order_on};
 ghost use Rattle.tp_placing.specs.Boards.{past_of};
 ghost use Rattle.tp_placing.specs.Causes.{most_causes, step_causes};
 ghost use Rattle.tp_placing.specs.Loaded.{CanLoad, IsLoaded, all_edges};
-ghost use Rattle.tp_placing.specs.Loading.{AreIds, chains_causes, holds_on, point_count};
-ghost use Rattle.tp_placing.specs.Standing.{IsMadeFor};
+ghost use Rattle.tp_placing.specs.LoadedNet.{AreIds, chains_causes, holds_on, point_count};
+ghost use Rattle.tp_placing.specs.LoadedBoard.{IsMadeFor};
 
 use crate::board::Board;
 use crate::causes::Causes;

@@ -4,7 +4,7 @@ ghost use Rattle.tp_base.specs.Readings.{IsSameSize};
 ghost use Rattle.tp_base.specs.Net.{HasLeast};
 ghost use Rattle.tp_schedule.specs.Plans.{IsFormed, is_fixed};
 ghost use Rattle.tp_constraints.specs.Gaps.{cap_of, low_of};
-ghost use Rattle.tp_placing.specs.Loading.{HasBounds, caps_of, firsts_from, lows_of, point_count, with_bounds, with_plans};
+ghost use Rattle.tp_placing.specs.LoadedNet.{HasBounds, caps_of, firsts_from, lows_of, point_count, with_bounds, with_plans};
 
 use tp_base::{Network, PointId, Tick};
 use tp_schedule::{Kind, Plan};

@@ -2,7 +2,7 @@
 ghost use Rattle.std.specs.Prelude.{◌≡◌, ◌<◌, ◌≤◌, length, slice_index, true, All};
 ghost use Rattle.std.specs.List.{AllWithin};
 ghost use Rattle.std.specs.List.Sorted.{IsNonDecreasingBy};
-ghost use Rattle.tp_placing.specs.Loading.{HasPoints, firsts_from};
+ghost use Rattle.tp_placing.specs.LoadedNet.{HasPoints, firsts_from};
 ghost use Rattle.tp_placing.specs.LoadedHolds.{IsHeldWithin, begin_held, ticks_in};
 
 use crate::parts::Held;

@@ -5,16 +5,16 @@ use Rattle.tp_outside.specs.Outside.{Files, file_at}
 use Rattle.tp_command.specs.Form.{Asked, form}
 use Rattle.tp_command.specs.declared.request.Mode.{Mode}
 use Rattle.tp_command.specs.declared.request.Mode.TheVariants.{Run, Save, Resume, Check, Soak, Compose, Farm}
-use Rattle.tp_standing.specs.Told.{told as state_told}
+use Rattle.tp_session_standing.specs.Told.{told as state_told}
 use Rattle.tp_program.specs.Checks.{CheckEnds}
-use Rattle.tp_program.specs.Composing.{ComposeEnds}
-use Rattle.tp_program.specs.Farming.{NoneListedMissing, FarmEnds}
+use Rattle.tp_program.specs.ComposeEnds.{ComposeEnds}
+use Rattle.tp_program.specs.FarmEnds.{NoneListedMissing, FarmEnds}
 use Rattle.tp_program.specs.Modes.{Ends, EndsAs}
 use Rattle.tp_program.specs.Requests.{Asks, IsThereFor}
-use Rattle.tp_program.specs.Resuming.{ResumeEnds}
+use Rattle.tp_program.specs.ResumeEnds.{ResumeEnds}
 use Rattle.tp_program.specs.Runs.{RunEnds}
-use Rattle.tp_program.specs.Saving.{SaveEnds}
-use Rattle.tp_program.specs.Soaking.{SoakEnds}
+use Rattle.tp_program.specs.SaveEnds.{SaveEnds}
+use Rattle.tp_program.specs.SoakEnds.{SoakEnds}
 use Rattle.tp_program.specs.declared.status.Status.{Status}
 use Rattle.tp_program.specs.declared.status.Status.TheVariants as status
 

@@ -1,11 +1,11 @@
 -- How a check ends, by what it found.
 use Rattle.std.proofs.Common.{◌≡◌, ◌⊎◌, ℕ, List, [], Option, Some, inl, inr, sym, subst}
 use Rattle.std.specs.Prelude.{IfSome}
-use Rattle.tp_entries.specs.declared.counts.Counts.{Counts}
+use Rattle.tp_log_check.specs.declared.counts.Counts.{Counts}
 use Rattle.tp_machine.specs.declared.machine.Machine.{Machine}
-use Rattle.tp_checking.specs.Ends.{IsAcceptedFrom, StopsFrom}
-use Rattle.tp_checking.specs.declared.cause.Cause.{Cause}
-use Rattle.tp_checking.specs.declared.cause.Cause.TheVariants as cause
+use Rattle.tp_log_check.specs.Ends.{IsAcceptedFrom, StopsFrom}
+use Rattle.tp_log_check.specs.declared.cause.Cause.{Cause}
+use Rattle.tp_log_check.specs.declared.cause.Cause.TheVariants as cause
 use Rattle.tp_program.specs.Checks.{ChecksOn, WritesCounts, status_of}
 use Rattle.tp_program.specs.declared.status.Status.{Status}
 use Rattle.tp_program.specs.declared.status.Status.TheVariants as status

@@ -3,8 +3,8 @@ use Rattle.std.proofs.Common.{◌≡◌, ◌++◌, List, ℕ, Option, Some, subs
 use Rattle.std.specs.Prelude.{IfSome}
 use Rattle.tp_compose.specs.Texts.{IsComposed, IsSoundRack}
 use Rattle.tp_outside.specs.Outside.{Files}
-use Rattle.tp_outside.specs.Reading.{IsCutShort}
-use Rattle.tp_program.specs.Composing.{WritesComposed}
+use Rattle.tp_outside.specs.PartialTransfer.{IsCutShort}
+use Rattle.tp_program.specs.ComposeEnds.{WritesComposed}
 use Rattle.tp_program.specs.Texts.{IsShelved}
 use Rattle.tp_program.specs.declared.status.Status.TheVariants.{Done, Sink}
 

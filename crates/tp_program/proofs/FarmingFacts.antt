@@ -9,7 +9,7 @@ use Rattle.std.proofs.lemmas.List.Elements.{All-push}
 use Rattle.std.proofs.lemmas.Option.{get_or_from_slice_get, slice_get-get_or, slice_get_within}
 use Rattle.tp_machine.specs.declared.machine.Machine.{Machine}
 use Rattle.tp_machine_text.specs.Texts.{IsBrokenAt, IsNotToml}
-use Rattle.tp_machine_text.specs.declared.text.MachineFault.TheVariants as fault
+use Rattle.tp_machine_text.specs.declared.machine_reader.MachineFault.TheVariants as fault
 use Rattle.tp_outside.specs.Outside.{Files, IsCounted, Rises, file_at}
 use Rattle.tp_outside.proofs.Parts.{IfSome-at}
 use Rattle.tp_command.specs.Form.{Asked}
@@ -22,8 +22,8 @@ use Rattle.tp_farm.proofs.SendingFacts.{AllZip-more}
 use Rattle.tp_farm.specs.Farms.{FarmState, farm_of}
 use Rattle.tp_farm.specs.Lists.{IsFileName, names_of}
 use Rattle.tp_farm.specs.Scripts.{IsStopped, IsTaken}
-use Rattle.tp_farm_runs.specs.FarmRuns.{FarmScriptsLawful, FarmStopsLawful, farm_start}
-use Rattle.tp_program.specs.Farming.{AreMachines, AreNames, BeginsOn, FarmDone, FarmStops, IsFarmFor, IsFirstOther, IsListed, NoFarm, NoMachines, NoneListedMissing, NoneMissing, of_machine}
+use Rattle.tp_program.specs.FarmRuns.{FarmScriptsLawful, FarmStopsLawful, farm_start}
+use Rattle.tp_program.specs.FarmEnds.{AreMachines, AreNames, BeginsOn, FarmDone, FarmStops, IsFarmFor, IsFirstOther, IsListed, NoFarm, NoMachines, NoneListedMissing, NoneMissing, of_machine}
 use Rattle.tp_program.specs.Runs.{NoMachine}
 use Rattle.tp_program.specs.Texts.{IsLongText, IsShelved, most_text}
 use Rattle.tp_program.specs.declared.farm_fault.FarmFault.TheVariants as farm

@@ -4,10 +4,10 @@ use Rattle.std.specs.Prelude.{IsTrue}
 use Rattle.tp_outside.specs.Outside.{Files}
 use Rattle.tp_command.specs.Form.{Asked}
 use Rattle.tp_machine_text.specs.Texts.{IsBrokenAt, IsNotToml}
-use Rattle.tp_machine_text.specs.declared.text.MachineFault.TheVariants as fault
+use Rattle.tp_machine_text.specs.declared.machine_reader.MachineFault.TheVariants as fault
 use Rattle.tp_machine_text.proofs.OneTable.{sound}
 use Rattle.tp_farm.specs.Lists.{IsBadName, IsFileName, IsNoList, names_of}
-use Rattle.tp_program.specs.Farming.{AreNames, FarmedBy, IsFirstOther, IsListed, NoFarm, NoMachines}
+use Rattle.tp_program.specs.FarmEnds.{AreNames, FarmedBy, IsFirstOther, IsListed, NoFarm, NoMachines}
 use Rattle.tp_program.specs.FarmsInOrder.{IsFarmInOrder, IsOfMachine, NoFarmIsRefused}
 use Rattle.tp_program.specs.InOrder.{is_refusal}
 use Rattle.tp_program.specs.Texts.{IsLongText, IsShelved}

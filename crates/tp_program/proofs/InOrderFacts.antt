@@ -4,16 +4,16 @@ use Rattle.std.specs.Prelude.{IsSomeAnd, IsTrue}
 use Rattle.tp_outside.specs.Outside.{Files, file_at}
 use Rattle.tp_command.specs.Form.{Asked, form}
 use Rattle.tp_compose.specs.Texts.{IsFlatBrokenAt, IsRackBrokenAt}
-use Rattle.tp_compose.specs.declared.composing.RackFault.TheVariants as rack
+use Rattle.tp_compose.specs.declared.rack_machine.RackFault.TheVariants as rack
 use Rattle.tp_machine.specs.declared.machine.Machine.{Machine}
 use Rattle.tp_machine_text.specs.Texts.{IsBrokenAt, IsMachineText, IsNotToml, IsSound}
-use Rattle.tp_machine_text.specs.declared.text.MachineFault.TheVariants as fault
+use Rattle.tp_machine_text.specs.declared.machine_reader.MachineFault.TheVariants as fault
 use Rattle.tp_machine_text.proofs.OneTable.{sound}
 use Rattle.tp_stream.specs.declared.stop.Stop.TheVariants as stop
-use Rattle.tp_program.specs.Composing.{NoRack, WritesComposed}
+use Rattle.tp_program.specs.ComposeEnds.{NoRack, WritesComposed}
 use Rattle.tp_program.specs.InOrder.{IsRackInOrder, IsRunInOrder, IsThere, NoRackIsRefused, NoRunIsRefused, is_refusal}
 use Rattle.tp_program.specs.Runs.{NoMachine, RanBy}
-use Rattle.tp_program.specs.Saving.{SavedBy}
+use Rattle.tp_program.specs.SaveEnds.{SavedBy}
 use Rattle.tp_program.specs.Texts.{IsLongText, IsShelved, most_text}
 use Rattle.tp_program.specs.declared.status.Long.TheVariants as size
 use Rattle.tp_program.specs.declared.status.Status.{Status}

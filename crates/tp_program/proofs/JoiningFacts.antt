@@ -5,17 +5,17 @@ use Rattle.tp_machine.specs.declared.machine.Machine.{Machine}
 use Rattle.tp_jobs.specs.declared.standing.Standing as kept
 use Rattle.tp_script.specs.Lines.{line_event}
 use Rattle.tp_snapshot.specs.Laws.{OneIsRead}
-use Rattle.tp_standing.specs.Told.{standing_of, told as state_told}
+use Rattle.tp_session_standing.specs.Told.{standing_of, told as state_told}
 use Rattle.tp_stream.specs.Takes.{IsWritten}
-use Rattle.tp_turn.specs.States.{SessionState, empty_state}
+use Rattle.tp_event_rules.specs.States.{SessionState, empty_state}
 use Rattle.tp_words.specs.Texts.{lines_of}
-use Rattle.tp_runs.proofs.Lawful.{run_text-append}
-use Rattle.tp_runs.specs.Ends.{IsAnswered}
-use Rattle.tp_runs.specs.EventRuns.{IsRunOf}
-use Rattle.tp_runs.specs.GoingOn.{FirstRunsAreLawful, RunsJoin}
-use Rattle.tp_runs.specs.Wholes.{IsWhole}
-use Rattle.tp_program.specs.Joining.{ResumedLogsJoin}
-use Rattle.tp_program.specs.Saving.{HasSavedLine}
+use Rattle.tp_run_laws.proofs.Lawful.{run_text-append}
+use Rattle.tp_run_laws.specs.Ends.{IsAnswered}
+use Rattle.tp_run_laws.specs.EventRuns.{IsRunOf}
+use Rattle.tp_run_laws.specs.GoingOn.{FirstRunsAreLawful, RunsJoin}
+use Rattle.tp_run_laws.specs.Wholes.{IsWhole}
+use Rattle.tp_program.specs.JoinedLogs.{ResumedLogsJoin}
+use Rattle.tp_program.specs.SaveEnds.{HasSavedLine}
 
 module _ (machine : Machine) (budget : ℕ) (bounds : Bool) (join : RunsJoin machine budget bounds) (lawful : FirstRunsAreLawful machine budget bounds)
     (script more : List ℕ) (taken taken' : Option (List ℕ)) (saved : HasSavedLine machine budget bounds script) where

@@ -1,3 +1,4 @@
+mod FarmFacts
 mod AskedFacts
 mod CheckFacts
 mod ChecksInOrderFacts

@@ -6,10 +6,10 @@ use Rattle.std.proofs.lemmas.List.Sums.{sum_by-append, sum_by-cons}
 use Rattle.tp_stream.specs.Takes.{ends_whole}
 use Rattle.tp_stream.proofs.Lines.{lines_after}
 use Rattle.tp_words.specs.Texts.{lines_of, onto_line}
-use Rattle.tp_checking.specs.Ends.{StopsAt}
-use Rattle.tp_checking.specs.Sizes.{KeepsSizes, begins_event, event_lines, events_in}
-use Rattle.tp_checking.specs.declared.cause.Cause.TheVariants.{Log}
-use Rattle.tp_checking.proofs.Lines.{begins-more}
+use Rattle.tp_log_check.specs.Ends.{StopsAt}
+use Rattle.tp_log_check.specs.Sizes.{KeepsSizes, begins_event, event_lines, events_in}
+use Rattle.tp_log_check.specs.declared.cause.Cause.TheVariants.{Log}
+use Rattle.tp_log_check.proofs.FedLines.{begins-more}
 
 first-line : (lines : List (List ℕ)) → 0 < count_by begins_event (onto_line 62 (onto_line 32 lines))
 first-line [] = omega (arith, sum_by-cons events_in (62 ∷ 32 ∷ []) [])

@@ -7,9 +7,9 @@ use Rattle.tp_snapshot.specs.Laws.{OneVerdict}
 use Rattle.tp_snapshot.specs.Rules.{IsBrokenAt}
 use Rattle.tp_snapshot.specs.Texts.{IsNotJson}
 use Rattle.tp_snapshot.specs.declared.fault.SnapFault.TheVariants as snap
-use Rattle.tp_standing.specs.Told.{told as state_told}
+use Rattle.tp_session_standing.specs.Told.{told as state_told}
 use Rattle.tp_program.specs.InOrder.{is_refusal}
-use Rattle.tp_program.specs.Resuming.{IsSaved, NoSnapshot, ResumesOn, most_snapshot}
+use Rattle.tp_program.specs.ResumeEnds.{IsSaved, NoSnapshot, ResumesOn, most_snapshot}
 use Rattle.tp_program.specs.ResumesInOrder.{IsResumeInOrder, NoResumeIsRefused}
 use Rattle.tp_program.specs.declared.status.Long.TheVariants as size
 use Rattle.tp_program.specs.declared.status.Status.{Status}

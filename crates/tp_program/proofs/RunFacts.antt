@@ -2,7 +2,7 @@
 use Rattle.std.proofs.Common.{◌≡◌, ◌≢◌, ℕ, Bool, List, [], Option, Some, refl, sym, subst, arith}
 use Rattle.std.specs.Prelude.{IfSome, unwrap_or}
 use Rattle.tp_machine.specs.declared.machine.Machine.{Machine}
-use Rattle.tp_runs.specs.Wholes.{IsWhole}
+use Rattle.tp_run_laws.specs.Wholes.{IsWhole}
 use Rattle.tp_session.specs.GoingOn.{ScriptsGoOn, StopsGoOn, stands_at}
 use Rattle.tp_session.specs.Sessions.{Standing, Tells}
 use Rattle.tp_stream.specs.Scripts.{AnswersLine, IsStopped, IsTaken, line_bytes}
@@ -10,7 +10,7 @@ use Rattle.tp_stream.specs.Takes.{place_of}
 use Rattle.tp_stream.specs.declared.stop.Stop.{Stop}
 use Rattle.tp_stream.specs.declared.stop.Stop.TheVariants as stop
 use Rattle.tp_stream.proofs.TakesFacts.{read_none, takes_none}
-use Rattle.tp_turn.specs.States.{SessionState}
+use Rattle.tp_event_rules.specs.States.{SessionState}
 use Rattle.tp_program.specs.Runs.{DoneOn, EndsBy, EndsOn, StopsOn}
 use Rattle.tp_program.specs.declared.status.Long.TheVariants as size
 use Rattle.tp_program.specs.declared.status.Status.{Status}

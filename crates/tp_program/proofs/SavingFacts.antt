@@ -3,25 +3,25 @@ use Rattle.std.proofs.Common.{◌≡◌, ℕ, Bool, List, [], ◌∷◌, ◌++�
 use Rattle.std.specs.Prelude.{IfSome, true, codes, unwrap_or}
 use Rattle.tp_machine.specs.declared.machine.Machine.{Machine}
 use Rattle.tp_jobs.specs.declared.standing.Standing as kept
-use Rattle.tp_outside.specs.Reading.{IsCutShort}
+use Rattle.tp_outside.specs.PartialTransfer.{IsCutShort}
 use Rattle.tp_outside.proofs.Parts.{IfSome-at, IfSome-from}
-use Rattle.tp_session.specs.Ending.{ScriptEnds, ScriptsEndSoundly}
+use Rattle.tp_session.specs.SessionEnds.{ScriptEnds, ScriptsEndSoundly}
 use Rattle.tp_session.specs.GoingOn.{StopsGoOn}
 use Rattle.tp_session.specs.Sessions.{Standing, Tells, start_of}
 use Rattle.tp_snapshot.specs.Rules.{IsSnapshot}
 use Rattle.tp_snapshot.specs.Texts.{IsWritten as IsText}
-use Rattle.tp_standing.specs.Sound.{IsSound}
-use Rattle.tp_standing.specs.Told.{standing_of}
+use Rattle.tp_session_standing.specs.Sound.{IsSound}
+use Rattle.tp_session_standing.specs.Told.{standing_of}
 use Rattle.tp_stream.specs.Scripts.{IsStopped, IsTaken}
 use Rattle.tp_stream.specs.Takes.{IsWritten}
 use Rattle.tp_stream.specs.declared.stop.Stop.{Stop}
 use Rattle.tp_stream.proofs.TakesFacts.{written_then}
-use Rattle.tp_turn.specs.States.{empty_state}
-use Rattle.tp_runs.proofs.Lawful.{whole-empty}
-use Rattle.tp_runs.specs.Ends.{IsAnswered}
+use Rattle.tp_event_rules.specs.States.{empty_state}
+use Rattle.tp_run_laws.proofs.Lawful.{whole-empty}
+use Rattle.tp_run_laws.specs.Ends.{IsAnswered}
 use Rattle.tp_program.proofs.RunFacts.{ends_by, stops_on}
 use Rattle.tp_program.specs.Runs.{EndsBy}
-use Rattle.tp_program.specs.Saving.{EndsWithLine, HasSavedLine, IsSavedLine, SaveDone, SaveStops, SavesOn}
+use Rattle.tp_program.specs.SaveEnds.{EndsWithLine, HasSavedLine, IsSavedLine, SaveDone, SaveStops, SavesOn}
 use Rattle.tp_program.specs.declared.status.Status.{Status}
 use Rattle.tp_program.specs.declared.status.Status.TheVariants as status
 

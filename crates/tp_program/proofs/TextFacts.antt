@@ -1,7 +1,7 @@
 -- Where there is no text of a name, there is no machine and no rack of it.
 use Rattle.std.proofs.Common.{ℕ, List, Option}
 use Rattle.tp_outside.specs.Outside.{Files}
-use Rattle.tp_program.specs.Composing.{NoRack}
+use Rattle.tp_program.specs.ComposeEnds.{NoRack}
 use Rattle.tp_program.specs.Runs.{NoMachine}
 use Rattle.tp_program.specs.Texts.{NoText}
 use Rattle.tp_program.specs.declared.status.Long.TheVariants as size

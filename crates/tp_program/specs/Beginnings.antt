@@ -5,9 +5,9 @@ use Rattle.tp_machine.specs.declared.machine.Machine.{Machine}
 use Rattle.tp_jobs.specs.declared.standing.Standing as kept
 use Rattle.tp_session.specs.GoingOn.{stands_at}
 use Rattle.tp_session.specs.Sessions.{Standing}
-use Rattle.tp_standing.specs.Sound.{IsSound}
-use Rattle.tp_standing.specs.Told.{told}
-use Rattle.tp_turn.specs.States.{SessionState, empty_state}
+use Rattle.tp_session_standing.specs.Sound.{IsSound}
+use Rattle.tp_session_standing.specs.Told.{told}
+use Rattle.tp_event_rules.specs.States.{SessionState, empty_state}
 
 abbrev pub first_state : Machine → Option kept.Standing → SessionState
 first_state machine None = empty_state

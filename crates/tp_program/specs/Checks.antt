@@ -4,14 +4,14 @@ use Rattle.tp_outside.specs.Outside.{Files}
 use Rattle.tp_machine.specs.declared.machine.Machine.{Machine}
 use Rattle.tp_machine_text.specs.Texts.{IsMachineText}
 use Rattle.tp_command.specs.Form.{Asked}
-use Rattle.tp_entries.specs.declared.counts.Counts.{Counts}
-use Rattle.tp_checking.specs.Ends.{IsAcceptedFrom, StopsFrom}
-use Rattle.tp_checking.specs.Summary.{counts_text}
-use Rattle.tp_checking.specs.declared.cause.Cause.{Cause}
-use Rattle.tp_checking.specs.declared.cause.Cause.TheVariants as cause
+use Rattle.tp_log_check.specs.declared.counts.Counts.{Counts}
+use Rattle.tp_log_check.specs.Ends.{IsAcceptedFrom, StopsFrom}
+use Rattle.tp_log_check.specs.Summary.{counts_text}
+use Rattle.tp_log_check.specs.declared.cause.Cause.{Cause}
+use Rattle.tp_log_check.specs.declared.cause.Cause.TheVariants as cause
 use Rattle.tp_program.specs.Runs.{NoMachine}
 use Rattle.tp_program.specs.Texts.{IsShelved}
-use Rattle.tp_program.specs.Writing.{WritesOne}
+use Rattle.tp_program.specs.WrittenText.{WritesOne}
 use Rattle.tp_program.specs.declared.status.Long.TheVariants.{Line, Log}
 use Rattle.tp_program.specs.declared.status.Status.{Status}
 use Rattle.tp_program.specs.declared.status.Status.TheVariants.{Done, Memory, Source, Sink, TooLong, Rejected}

@@ -5,7 +5,7 @@ use Rattle.tp_machine.specs.declared.machine.Machine.{Machine}
 use Rattle.tp_machine_text.specs.Texts.{IsMachineText}
 use Rattle.tp_command.specs.Form.{Asked, form}
 use Rattle.tp_command.specs.declared.request.Mode.TheVariants.{Check}
-use Rattle.tp_checking.specs.Sizes.{KeepsSizes}
+use Rattle.tp_log_check.specs.Sizes.{KeepsSizes}
 use Rattle.tp_log_check.specs.declared.flaw.Flaw.{Flaw}
 use Rattle.tp_program.specs.Checks.{CheckedBy}
 use Rattle.tp_program.specs.InOrder.{IsThere, is_refusal}

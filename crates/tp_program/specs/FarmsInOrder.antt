@@ -8,7 +8,7 @@ use Rattle.tp_command.specs.declared.request.Mode.TheVariants.{Farm}
 use Rattle.tp_words.specs.Texts.{lines_of}
 use Rattle.tp_stream.specs.Scripts.{line_bytes, most_lines}
 use Rattle.tp_stream.specs.Takes.{FitsIn}
-use Rattle.tp_program.specs.Farming.{AreNames, FarmedBy, NoFarm}
+use Rattle.tp_program.specs.FarmEnds.{AreNames, FarmedBy, NoFarm}
 use Rattle.tp_program.specs.InOrder.{IsThere, is_refusal}
 use Rattle.tp_program.specs.declared.status.Status.{Status}
 

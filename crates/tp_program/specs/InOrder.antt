@@ -9,9 +9,9 @@ use Rattle.tp_compose.specs.Texts.{IsSoundRack}
 use Rattle.tp_words.specs.Texts.{lines_of}
 use Rattle.tp_stream.specs.Scripts.{line_bytes, most_lines}
 use Rattle.tp_stream.specs.Takes.{FitsIn}
-use Rattle.tp_program.specs.Composing.{NoRack, WritesComposed}
+use Rattle.tp_program.specs.ComposeEnds.{NoRack, WritesComposed}
 use Rattle.tp_program.specs.Runs.{NoMachine, RanBy}
-use Rattle.tp_program.specs.Saving.{SavedBy}
+use Rattle.tp_program.specs.SaveEnds.{SavedBy}
 use Rattle.tp_program.specs.Texts.{most_text}
 use Rattle.tp_program.specs.declared.status.Status.{Status}
 use Rattle.tp_program.specs.declared.status.Status.TheVariants.{Usage, Machine as MachineIs, TooLong, Rejected, Snapshot, Rack, Farm}

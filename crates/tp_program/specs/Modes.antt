@@ -5,12 +5,12 @@ use Rattle.tp_command.specs.Form.{Asked}
 use Rattle.tp_command.specs.declared.request.Mode.{Mode}
 use Rattle.tp_command.specs.declared.request.Mode.TheVariants.{Run, Save, Resume, Check, Soak, Compose, Farm}
 use Rattle.tp_program.specs.Checks.{CheckEnds}
-use Rattle.tp_program.specs.Composing.{ComposeEnds}
-use Rattle.tp_program.specs.Farming.{FarmEnds}
-use Rattle.tp_program.specs.Resuming.{ResumeEnds}
+use Rattle.tp_program.specs.ComposeEnds.{ComposeEnds}
+use Rattle.tp_program.specs.FarmEnds.{FarmEnds}
+use Rattle.tp_program.specs.ResumeEnds.{ResumeEnds}
 use Rattle.tp_program.specs.Runs.{RunEnds}
-use Rattle.tp_program.specs.Saving.{SaveEnds}
-use Rattle.tp_program.specs.Soaking.{SoakEnds}
+use Rattle.tp_program.specs.SaveEnds.{SaveEnds}
+use Rattle.tp_program.specs.SoakEnds.{SoakEnds}
 use Rattle.tp_program.specs.declared.status.Status.{Status}
 
 module _ {S K : Type 0} (left : S → Option (List ℕ)) (taken : K → Option (List ℕ)) (told : Option Files) (source source' : S) (sink sink' : K) where

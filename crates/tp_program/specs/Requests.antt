@@ -4,7 +4,7 @@ use Rattle.tp_outside.specs.Outside.{Files, file_at}
 use Rattle.tp_command.specs.Form.{Asked, form}
 use Rattle.tp_command.specs.declared.request.Mode.{Mode}
 use Rattle.tp_command.specs.declared.request.Mode.TheVariants.{Farm}
-use Rattle.tp_program.specs.Farming.{NoneListedMissing}
+use Rattle.tp_program.specs.FarmEnds.{NoneListedMissing}
 
 -- where the words ask for this mode, P holds of what they ask for
 abbrev pub Asks : Mode → List (List ℕ) → (Asked → Type 0) → Type 0

@@ -10,7 +10,7 @@ use Rattle.tp_words.specs.Texts.{lines_of}
 use Rattle.tp_stream.specs.Scripts.{line_bytes, most_lines}
 use Rattle.tp_stream.specs.Takes.{FitsIn}
 use Rattle.tp_program.specs.InOrder.{is_refusal}
-use Rattle.tp_program.specs.Resuming.{NoSnapshot, ResumesOn, most_snapshot}
+use Rattle.tp_program.specs.ResumeEnds.{NoSnapshot, ResumesOn, most_snapshot}
 use Rattle.tp_program.specs.declared.status.Status.{Status}
 
 -- the words ask to go on from a snapshot, and it and the script keep their sizes

@@ -3,13 +3,13 @@ use Rattle.std.specs.Prelude.{◌≡◌, ◌⊎◌, ℕ, Bool, List, [], Option,
 use Rattle.tp_outside.specs.Outside.{Files}
 use Rattle.tp_machine.specs.declared.machine.Machine.{Machine}
 use Rattle.tp_machine_text.specs.Texts.{IsBrokenAt, IsMachineText, IsNotToml}
-use Rattle.tp_machine_text.specs.declared.text.MachineFault.TheVariants.{NotToml, Rule}
+use Rattle.tp_machine_text.specs.declared.machine_reader.MachineFault.TheVariants.{NotToml, Rule}
 use Rattle.tp_command.specs.Form.{Asked}
 use Rattle.tp_stream.specs.Takes.{IsReadFrom}
 use Rattle.tp_stream.specs.declared.stop.Stop.{Stop}
 use Rattle.tp_stream.specs.declared.stop.Stop.TheVariants as stop
-use Rattle.tp_turn.specs.States.{SessionState, empty_state}
-use Rattle.tp_runs.specs.Ends.{IsAnswered, IsAnsweredTo}
+use Rattle.tp_event_rules.specs.States.{SessionState, empty_state}
+use Rattle.tp_run_laws.specs.Ends.{IsAnswered, IsAnsweredTo}
 use Rattle.tp_program.specs.Texts.{IsLongText, IsShelved}
 use Rattle.tp_program.specs.declared.status.Long.TheVariants.{MachineText, Line, Lines}
 use Rattle.tp_program.specs.declared.status.Status.{Status}

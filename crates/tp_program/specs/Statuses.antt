@@ -1,10 +1,10 @@
 -- The number and the line of each status.
 use Rattle.std.specs.Prelude.{ℕ, List, ◌++◌, codes}
 use Rattle.std.specs.Fmt.{decimal}
-use Rattle.tp_machine_text.specs.declared.text.MachineFault.{MachineFault}
-use Rattle.tp_machine_text.specs.declared.text.MachineFault.TheVariants as fault
-use Rattle.tp_compose.specs.declared.composing.RackFault.{RackFault}
-use Rattle.tp_compose.specs.declared.composing.RackFault.TheVariants as rack
+use Rattle.tp_machine_text.specs.declared.machine_reader.MachineFault.{MachineFault}
+use Rattle.tp_machine_text.specs.declared.machine_reader.MachineFault.TheVariants as fault
+use Rattle.tp_compose.specs.declared.rack_machine.RackFault.{RackFault}
+use Rattle.tp_compose.specs.declared.rack_machine.RackFault.TheVariants as rack
 use Rattle.tp_log_check.specs.FlawText.{flaw_text}
 use Rattle.tp_snapshot.specs.declared.fault.SnapFault.{SnapFault}
 use Rattle.tp_snapshot.specs.declared.fault.SnapFault.TheVariants as snap

@@ -1,25 +1,27 @@
 //! The program over its outside.
 #![tactic(auto)]
 
-mod checking;
-mod composing;
+mod check_mode;
+mod compose_mode;
 mod farm_fault;
-mod farming;
-mod joining;
+mod farm_laws;
+mod farm_mode;
+mod joined_logs;
 mod machine;
 mod machines;
 mod order;
 mod printer;
-mod resuming;
-mod run;
-mod saving;
+mod resume_mode;
+mod run_mode;
+mod save_mode;
 mod session;
-mod soaking;
+mod soak_mode;
 mod status;
 mod text;
 
 pub use farm_fault::FarmFault;
-pub use joining::resumed_logs_join;
+pub use farm_laws::farms_are_lawful;
+pub use joined_logs::resumed_logs_join;
 pub use order::{
     checks_in_order_are_answered, farms_in_order_are_answered, racks_in_order_are_composed,
     resumes_in_order_are_answered, runs_in_order_are_answered,

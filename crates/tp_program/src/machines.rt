@@ -5,7 +5,7 @@ ghost use Rattle.std.specs.List.{AllZip};
 ghost use Rattle.tp_command.specs.App.{seen};
 ghost use Rattle.tp_farm.specs.Inside.{state_of};
 ghost use Rattle.tp_outside.specs.Outside.{IsCounted, Rises, file_at};
-ghost use Rattle.tp_program.specs.Farming.{NoneListedMissing, BeginsOn, IsFarmFor, NoFarm, NoMachines, NoneMissing, of_machine};
+ghost use Rattle.tp_program.specs.FarmEnds.{NoneListedMissing, BeginsOn, IsFarmFor, NoFarm, NoMachines, NoneMissing, of_machine};
 ghost use Rattle.tp_program.specs.Runs.{NoMachine};
 ghost use Rattle.tp_words.specs.Parts.{shown};
 

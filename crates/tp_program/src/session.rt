@@ -4,11 +4,11 @@ ghost use Rattle.std.specs.Prelude.{◌≡◌, ◌≢◌, [], Some, IfErr, IfOk,
 ghost use Rattle.tp_outside.specs.Outside.{IsCounted, Rises};
 ghost use Rattle.tp_program.specs.Beginnings.{CanBegin, begun, first_state, standing_in};
 ghost use Rattle.tp_program.specs.Runs.{EndsBy, EndsOn};
-ghost use Rattle.tp_runs.specs.Wholes.{IsWhole};
+ghost use Rattle.tp_run_laws.specs.Wholes.{IsWhole};
 ghost use Rattle.tp_session.specs.Sessions.{Tells};
 ghost use Rattle.tp_stream.specs.Scripts.{IsStopped, IsTaken};
 ghost use Rattle.tp_stream.specs.declared.stop.Stop.{Stop};
-ghost use Rattle.tp_turn.specs.States.{SessionState};
+ghost use Rattle.tp_event_rules.specs.States.{SessionState};
 
 use crate::{Long, Status};
 use std::alloc::Global;

@@ -7,14 +7,14 @@ use Rattle.std.proofs.lemmas.List.Elements.{filter-append}
 use Rattle.std.proofs.lemmas.Option.{get_or_from_slice_get, slice_get-get_or, slice_get_within}
 use Rattle.tp_machine.specs.declared.parts.ActId.{ActId}
 use Rattle.tp_machine.specs.declared.machine.Machine.{Machine}
-use Rattle.tp_schedule.specs.Holding.{Run, runs_from, runs_of}
+use Rattle.tp_schedule.specs.Holders.{Run, runs_from, runs_of}
 use Rattle.tp_schedule.specs.Plans.{IsFormed, point}
 use Rattle.tp_schedule.specs.declared.parts.Plan.{Plan}
 use Rattle.tp_schedule.specs.declared.parts.SheetId.{SheetId}
-use Rattle.tp_turn.specs.Clock.{Told, release_of}
-use Rattle.tp_turn.specs.Moments.{due_until, is_due}
-use Rattle.tp_turn.specs.declared.telling.Tell.TheVariants.{Release}
-use Rattle.tp_turn.proofs.CutPlans.{length-runs_from}
+use Rattle.tp_event_rules.specs.Clock.{Told, release_of}
+use Rattle.tp_event_rules.specs.Moments.{due_until, is_due}
+use Rattle.tp_event_rules.specs.declared.tell.Tell.TheVariants.{Release}
+use Rattle.tp_event_rules.proofs.CutPlans.{length-runs_from}
 
 -- an action of a plan in time
 abbrev pub run_at : Plan → ℕ → ActId → Run

@@ -4,15 +4,15 @@ use Rattle.std.proofs.lemmas.List.Elements.{All-contains}
 use Rattle.tp_machine.specs.declared.machine.Machine.{Machine}
 use Rattle.tp_schedule.specs.Answers.{KeepsFloors, KeepsHorizon}
 use Rattle.tp_schedule.specs.Legality.{IsLegal}
-use Rattle.tp_schedule.specs.Living.{is_live}
-use Rattle.tp_schedule.specs.Planning.{none_exempt}
+use Rattle.tp_schedule.specs.LivePlans.{is_live}
+use Rattle.tp_schedule.specs.PlannerAnswers.{none_exempt}
 use Rattle.tp_schedule.specs.Plans.{IsTimedPlan, point}
 use Rattle.tp_schedule.specs.declared.parts.Plan.{Plan}
 use Rattle.tp_schedule.proofs.Membership.{Contains-filter_from, Contains-map_from}
-use Rattle.tp_turn.specs.Clock.{released_until}
-use Rattle.tp_turn.specs.Moments.{release_until}
-use Rattle.tp_turn.proofs.LeftPlans.{AreLeft, none, gone, more, IsLegal-left, KeepsHorizon-left}
-use Rattle.tp_turn.proofs.ReleasedPlans.{IsLeft-release, released-below}
+use Rattle.tp_event_rules.specs.Clock.{released_until}
+use Rattle.tp_event_rules.specs.Moments.{release_until}
+use Rattle.tp_event_rules.proofs.LeftPlans.{AreLeft, none, gone, more, IsLegal-left, KeepsHorizon-left}
+use Rattle.tp_event_rules.proofs.ReleasedPlans.{IsLeft-release, released-below}
 
 abbrev pub plans_after : Machine → ℕ → List Plan → List Plan
 plans_after machine to plans = filter (is_live machine to) (released_until machine to plans)

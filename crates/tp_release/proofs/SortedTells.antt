@@ -3,7 +3,7 @@ use Rattle.std.proofs.Common.{◌≡◌, ℕ, zero, suc, ◌<◌, ◌≤◌, Boo
 use Rattle.std.proofs.lemmas.Bool.{cond-true, cond-false, cases_Bool}
 use Rattle.std.proofs.lemmas.Bool.Decides.{nat_tests}
 use Rattle.std.specs.List.Sorted.{ties, IsNonDecreasingBy, IsStableByKey}
-use Rattle.tp_turn.specs.Clock.{Told, by_moment, put_told}
+use Rattle.tp_event_rules.specs.Clock.{Told, by_moment, put_told}
 
 -- of one moment
 abbrev is_with : Told → Told → Bool

@@ -1,13 +1,13 @@
 -- Where a plan ends.
 use Rattle.std.proofs.Common.{◌≡◌, ℕ, suc, ◌-◌, List, [], ◌∷◌, length, refl, ap, sym, ◌∙◌, arith, Option, Some, None, IsSomeAnd}
 use Rattle.std.specs.Prelude.{slice_get}
-use Rattle.tp_machine.specs.Using.{action_at}
+use Rattle.tp_machine.specs.ModuleUse.{action_at}
 use Rattle.tp_machine.specs.declared.parts.ActId.{ActId}
 use Rattle.tp_machine.specs.declared.parts.Action.{Action}
 use Rattle.tp_machine.specs.declared.machine.Machine.{Machine}
 use Rattle.tp_schedule.specs.Plans.{IsTimedPlan}
 use Rattle.tp_schedule.specs.declared.parts.Plan.{Plan}
-use Rattle.tp_turn.specs.Labels.{end_location, last_of, to_in}
+use Rattle.tp_event_rules.specs.Labels.{end_location, last_of, to_in}
 
 last_of-at : (acts : List ActId) (act : ActId) → slice_get acts (length acts - 1) ≡ Some act → last_of acts ≡ act
 last_of-at [] act is = absurd cc

@@ -1,12 +1,12 @@
 //! What is told, by moment.
 
 ghost use Rattle.std.specs.Prelude.{◌≡◌, map, OnOk, IfOk};
-ghost use Rattle.tp_turn.specs.Clock.{by_moment};
+ghost use Rattle.tp_event_rules.specs.Clock.{by_moment};
 
 use std::alloc::Global;
 use std::marker::Model;
 use tp_base::{Memory, Tick};
-use tp_turn::Tell;
+use tp_event_rules::Tell;
 
 /// What is told, with the moment at which it stands.
 #[derive(Drop)]
@@ -17,7 +17,7 @@ pub(crate) struct Dated {
 
 // Clauses see the same pair under the name that it has where turns are defined.
 impl Model for Dated {
-    ghost use Rattle.tp_turn.specs.Clock.{Told};
+    ghost use Rattle.tp_event_rules.specs.Clock.{Told};
 
     ghost Value = { Told };
 

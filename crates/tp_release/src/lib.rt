@@ -1,12 +1,12 @@
 //! The clock moves: what is told of it, which actions are released, and which plans go.
 #![tactic(auto)]
 
-mod advancing;
+mod clock_advance;
 mod dated;
 mod fault;
-mod gathering;
-mod releasing;
+mod plan_records;
+mod released_acts;
 
-pub use advancing::advance;
+pub use clock_advance::advance;
 pub use fault::AdvanceFault;
-pub use tp_turn::Tell;
+pub use tp_event_rules::Tell;

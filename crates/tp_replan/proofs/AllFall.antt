@@ -10,22 +10,22 @@ use Rattle.tp_schedule.specs.declared.parts.SheetId.{SheetId}
 use Rattle.tp_schedule.specs.declared.records.Record.TheVariants.{Again}
 use Rattle.tp_schedule.proofs.Membership.{Contains-here, Contains-later}
 use Rattle.tp_jobs.specs.Backlogs.{mark_broken, next_copy}
-use Rattle.tp_jobs.specs.Waiting.{put_waiting}
+use Rattle.tp_jobs.specs.WaitingCopies.{put_waiting}
 use Rattle.tp_jobs.specs.declared.parts.Job.{Job}
 use Rattle.tp_jobs.specs.declared.parts.WaitingCopy.{WaitingCopy}
-use Rattle.tp_turn.specs.Fates as fates
-use Rattle.tp_turn.specs.Fates.{Fate as Befalls, befall, is_loss}
-use Rattle.tp_turn.specs.FallBacks.{Displaced, fall_back, fall_back_unless_broken, fate_in_break, fate_in_fall_back, is_copy, is_later, is_line_entering, is_on_its_way, job_break, later_fall_back, next_waits}
-use Rattle.tp_turn.specs.Labels.{label}
-use Rattle.tp_turn.specs.Lines.{is_job_broken, is_of_job}
-use Rattle.tp_turn.specs.Moments.{is_entering, is_running_on, is_to_run_on, is_to_tray, is_unstarted}
-use Rattle.tp_turn.specs.Outages.{displaced, displaced_by, fate_in_outage, going_out, is_lost_by, outage}
-use Rattle.tp_turn.specs.Seen.{HasNextCopy, HasStarted}
-use Rattle.tp_turn.specs.States.{Outcome, SessionState, and_then, for_each, nothing_told}
-use Rattle.tp_turn.proofs.CutPlans.{started-low}
+use Rattle.tp_event_rules.specs.Fates as fates
+use Rattle.tp_event_rules.specs.Fates.{Fate as Befalls, befall, is_loss}
+use Rattle.tp_event_rules.specs.FallBacks.{Displaced, fall_back, fall_back_unless_broken, fate_in_break, fate_in_fall_back, is_copy, is_later, is_line_entering, is_on_its_way, job_break, later_fall_back, next_waits}
+use Rattle.tp_event_rules.specs.Labels.{label}
+use Rattle.tp_event_rules.specs.Lines.{is_job_broken, is_of_job}
+use Rattle.tp_event_rules.specs.Moments.{is_entering, is_running_on, is_to_run_on, is_to_tray, is_unstarted}
+use Rattle.tp_event_rules.specs.Outages.{displaced, displaced_by, fate_in_outage, going_out, is_lost_by, outage}
+use Rattle.tp_event_rules.specs.Seen.{HasNextCopy, HasStarted}
+use Rattle.tp_event_rules.specs.States.{Outcome, SessionState, and_then, for_each, nothing_told}
+use Rattle.tp_event_rules.proofs.CutPlans.{started-low}
 use Rattle.tp_replan.specs.Meanings.{IsKnown}
 use Rattle.tp_replan.specs.Open.{CanFall, Group, is_in, to_wait}
-use Rattle.tp_replan.specs.Outing.{CanAllFall}
+use Rattle.tp_replan.specs.Displacement.{CanAllFall}
 use Rattle.tp_replan.proofs.BreakFacts.{break-fits}
 use Rattle.tp_replan.proofs.OpenFacts.{and-first, and-second, count-append, count-cons, fall_back-fits, is_of_sheet, is_open_of, of_sheet-put}
 use Rattle.tp_replan.proofs.OutFacts.{outage-fits}

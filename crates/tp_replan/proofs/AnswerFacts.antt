@@ -1,7 +1,7 @@
 -- An answer leaves plans in time.
 use Rattle.std.proofs.Common.{ℕ, List, All, sym, subst}
 use Rattle.tp_machine.specs.declared.machine.Machine.{Machine}
-use Rattle.tp_schedule.specs.Planning.{IsAnswer}
+use Rattle.tp_schedule.specs.PlannerAnswers.{IsAnswer}
 use Rattle.tp_schedule.specs.Plans.{IsTimedPlan}
 use Rattle.tp_schedule.specs.declared.parts.Ask.{Ask}
 use Rattle.tp_schedule.specs.declared.parts.Plan.{Plan}

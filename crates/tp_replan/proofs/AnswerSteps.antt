@@ -3,8 +3,8 @@ use Rattle.std.proofs.Common.{◌≡◌, ◌⊎◌, ℕ, ◌+◌, ◌<◌, ◌�
 use Rattle.std.proofs.lemmas.List.Elements.{All-contains}
 use Rattle.tp_machine.specs.declared.machine.Machine.{Machine}
 use Rattle.tp_schedule.specs.Answers.{IsAlternative}
-use Rattle.tp_schedule.specs.Planning.{IsAnswer}
-use Rattle.tp_schedule.specs.Planning.Deed.{replied}
+use Rattle.tp_schedule.specs.PlannerAnswers.{IsAnswer}
+use Rattle.tp_schedule.specs.PlannerAnswers.Deed.{replied}
 use Rattle.tp_schedule.specs.Plans.{IsTimedPlan, is_same_copy, plan_of}
 use Rattle.tp_schedule.specs.declared.parts.Ask.{Ask}
 use Rattle.tp_schedule.specs.declared.parts.Plan.{Plan}
@@ -12,14 +12,14 @@ use Rattle.tp_schedule.specs.declared.parts.Reply.{Reply}
 use Rattle.tp_schedule.specs.declared.parts.Reply.TheVariants.{Never, Spent}
 use Rattle.tp_schedule.specs.declared.records.Record.{Record}
 use Rattle.tp_schedule.proofs.CopyFacts.{plan_of-itself}
-use Rattle.tp_turn.specs.Answering.{told_of_reply}
-use Rattle.tp_turn.specs.Loops.{after_asked, after_reply, next_ask, not_planned}
-use Rattle.tp_turn.specs.Planners.{PlannerSteps}
-use Rattle.tp_turn.specs.Seen.{HasNextCopy}
-use Rattle.tp_turn.specs.States.{SessionState}
-use Rattle.tp_turn.proofs.ListFacts.{find-Some}
+use Rattle.tp_event_rules.specs.AnswerRecords.{told_of_reply}
+use Rattle.tp_event_rules.specs.Loops.{after_asked, after_reply, next_ask, not_planned}
+use Rattle.tp_event_rules.specs.Planners.{PlannerSteps}
+use Rattle.tp_event_rules.specs.Seen.{HasNextCopy}
+use Rattle.tp_event_rules.specs.States.{SessionState}
+use Rattle.tp_event_rules.proofs.ListFacts.{find-Some}
 use Rattle.tp_replan.specs.Answered.{IsAnswered}
-use Rattle.tp_replan.specs.Looping.{CanLoop}
+use Rattle.tp_replan.specs.LooseLoop.{CanLoop}
 use Rattle.tp_replan.specs.Meanings.{IsKnown, Leads}
 use Rattle.tp_replan.proofs.GivenUp.{first-loose}
 

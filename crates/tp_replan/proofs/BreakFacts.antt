@@ -8,12 +8,12 @@ use Rattle.tp_schedule.proofs.Pairs.{AllPairs-nil, AllPairs-cons, AllPairs-head,
 use Rattle.tp_jobs.specs.Backlogs.{IsOfJob, WaitsBefore}
 use Rattle.tp_jobs.specs.declared.parts.Job.{Job}
 use Rattle.tp_jobs.specs.declared.parts.WaitingCopy.{WaitingCopy}
-use Rattle.tp_turn.specs.Fates as fates
-use Rattle.tp_turn.specs.Fates.{waits_for}
-use Rattle.tp_turn.specs.FallBacks.{fate_in_break, is_copy, is_on_its_way, notices_of_waiting}
-use Rattle.tp_turn.specs.Lines.{is_of_job}
-use Rattle.tp_turn.specs.Moments.{is_entering, is_unstarted}
-use Rattle.tp_turn.specs.States.{SessionState}
+use Rattle.tp_event_rules.specs.Fates as fates
+use Rattle.tp_event_rules.specs.Fates.{waits_for}
+use Rattle.tp_event_rules.specs.FallBacks.{fate_in_break, is_copy, is_on_its_way, notices_of_waiting}
+use Rattle.tp_event_rules.specs.Lines.{is_of_job}
+use Rattle.tp_event_rules.specs.Moments.{is_entering, is_unstarted}
+use Rattle.tp_event_rules.specs.States.{SessionState}
 use Rattle.tp_replan.specs.Meanings.{StandsBefore, notice_of_copy}
 use Rattle.tp_replan.specs.Open.{Fits}
 use Rattle.tp_replan.proofs.OpenFacts.{started-some, stays-fits}

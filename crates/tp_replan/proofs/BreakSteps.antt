@@ -7,11 +7,11 @@ use Rattle.tp_jobs.specs.declared.parts.WaitingCopy.{WaitingCopy}
 use Rattle.tp_schedule.specs.Plans.{IsFormed}
 use Rattle.tp_schedule.specs.declared.parts.SheetId.{SheetId}
 use Rattle.tp_schedule.specs.declared.records.Record.TheVariants.{Broken}
-use Rattle.tp_turn.specs.Fates.{befall, waits_for}
-use Rattle.tp_turn.specs.FallBacks.{by_copy, fate_in_break, job_break}
-use Rattle.tp_turn.specs.Labels.{job_name}
-use Rattle.tp_turn.specs.Lines.{is_of_job, put_all_waiting}
-use Rattle.tp_turn.specs.States.{SessionState}
+use Rattle.tp_event_rules.specs.Fates.{befall, waits_for}
+use Rattle.tp_event_rules.specs.FallBacks.{by_copy, fate_in_break, job_break}
+use Rattle.tp_event_rules.specs.Labels.{job_name}
+use Rattle.tp_event_rules.specs.Lines.{is_of_job, put_all_waiting}
+use Rattle.tp_event_rules.specs.States.{SessionState}
 use Rattle.tp_replan.specs.Meanings.{AreCutStarted, AreFates, CanAllWait, notice_of_plan, told_by_copy, waits_in}
 use Rattle.tp_replan.specs.declared.fate.Fate.{Fate}
 use Rattle.tp_replan.proofs.BreakFacts.{break-fits, none-wait, notices-are}

@@ -3,12 +3,12 @@ use Rattle.std.proofs.Common.{◌≡◌, ℕ, ◌+◌, ◌≤◌, Bool, true, fa
 use Rattle.tp_schedule.specs.declared.parts.SheetId.{SheetId}
 use Rattle.tp_schedule.specs.declared.records.Record.{Record}
 use Rattle.tp_jobs.specs.Backlogs.{next_copy}
-use Rattle.tp_jobs.specs.Waiting.{find_waiting, put_waiting}
+use Rattle.tp_jobs.specs.WaitingCopies.{find_waiting, put_waiting}
 use Rattle.tp_jobs.specs.declared.parts.WaitingCopy.{WaitingCopy}
-use Rattle.tp_turn.specs.FallBacks.{Displaced, fall_back, is_line_entering, job_break, later_fall_back, next_waits}
+use Rattle.tp_event_rules.specs.FallBacks.{Displaced, fall_back, is_line_entering, job_break, later_fall_back, next_waits}
 use Rattle.tp_schedule.specs.declared.records.Record.TheVariants.{Again}
-use Rattle.tp_turn.specs.Labels.{label}
-use Rattle.tp_turn.specs.States.{Outcome, SessionState, and_then, for_each, nothing_told}
+use Rattle.tp_event_rules.specs.Labels.{label}
+use Rattle.tp_event_rules.specs.States.{Outcome, SessionState, and_then, for_each, nothing_told}
 use Rattle.tp_replan.specs.Meanings.{Leads}
 use Rattle.tp_replan.specs.Open.{CanFall, all_copies, is_in, most_waiting, one_sheet, to_wait}
 use Rattle.tp_replan.proofs.OpenFacts.{count-cons, count-every, is_of_sheet, none-of, of_sheet-put, one-where, own-sheet}

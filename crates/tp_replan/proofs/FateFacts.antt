@@ -5,11 +5,11 @@ use Rattle.std.proofs.lemmas.List.{append-nil, take_more, flat_map_more, map-app
 use Rattle.std.proofs.lemmas.List.Elements.{filter-append}
 use Rattle.std.proofs.lemmas.Option.{get_or_from_slice_get, slice_get_within}
 use Rattle.tp_schedule.specs.declared.parts.Plan.{Plan}
-use Rattle.tp_jobs.specs.Waiting.{put_waiting}
+use Rattle.tp_jobs.specs.WaitingCopies.{put_waiting}
 use Rattle.tp_jobs.proofs.OrderFacts.{length-put_waiting}
 use Rattle.tp_jobs.specs.declared.parts.WaitingCopy.{WaitingCopy}
-use Rattle.tp_turn.specs.Fates.{Fate as Befalls, waits_for}
-use Rattle.tp_turn.specs.Lines.{put_all_waiting}
+use Rattle.tp_event_rules.specs.Fates.{Fate as Befalls, waits_for}
+use Rattle.tp_event_rules.specs.Lines.{put_all_waiting}
 use Rattle.tp_replan.specs.Meanings.{CanAllWait, meant, waits_in}
 use Rattle.tp_replan.specs.declared.fate.Fate.{Fate}
 

@@ -2,25 +2,25 @@
 use Rattle.std.proofs.Common.{◌≡◌, ℕ, ◌+◌, ◌<◌, ◌≤◌, Bool, true, false, cond, not, ◌&&◌, ◌||◌, ◌==◌, List, [], ◌∷◌, length, find, Option, Some, None, option_map, IsTrue, Contains, refl, sym, ap, ◌∙◌, arith, subst, count_by, inl, inr}
 use Rattle.std.proofs.lemmas.List.Elements.{All-contains}
 use Rattle.tp_machine.specs.declared.machine.Machine.{Machine}
-use Rattle.tp_schedule.specs.Living.{live_count}
-use Rattle.tp_schedule.specs.Planning.{IsKnownGoal}
+use Rattle.tp_schedule.specs.LivePlans.{live_count}
+use Rattle.tp_schedule.specs.PlannerAnswers.{IsKnownGoal}
 use Rattle.tp_schedule.specs.Plans.{IsTimedPlan, change_plan, end_of_plan, goes_to, is_before, is_delivered_to, is_front, is_same_copy, plan_of}
 use Rattle.tp_schedule.specs.declared.parts.Ask.{Ask}
 use Rattle.tp_schedule.specs.declared.parts.Plan.{Plan}
 use Rattle.tp_schedule.specs.declared.parts.SheetId.{SheetId}
 use Rattle.tp_schedule.proofs.CopyFacts.{plan_of-itself, same_copy-is}
 use Rattle.tp_schedule.proofs.Membership.{All-from_contains}
-use Rattle.tp_turn.specs.Fates.{to_purge}
-use Rattle.tp_turn.specs.Lines.{is_lost}
-use Rattle.tp_turn.specs.Loops.{ask_in_flight, gives_tray_up, is_loose, next_ask}
-use Rattle.tp_turn.specs.Moments.{is_to_tray}
-use Rattle.tp_turn.specs.Seen.{HasNextCopy, HasStarted}
-use Rattle.tp_turn.specs.States.{SessionState}
-use Rattle.tp_turn.proofs.LeftPlans.{AreLeft, live_count-left}
-use Rattle.tp_turn.proofs.ListFacts.{find-Some}
-use Rattle.tp_turn.proofs.PlanOnFacts.{CanPlanOn-left, Contains-change_plan, IsLeft-to_purge}
-use Rattle.tp_turn.proofs.ReleasedPlans.{AreLeft-change_plan}
-use Rattle.tp_replan.specs.Looping.{CanLoop, IsUnderWay, is_loose_in}
+use Rattle.tp_event_rules.specs.Fates.{to_purge}
+use Rattle.tp_event_rules.specs.Lines.{is_lost}
+use Rattle.tp_event_rules.specs.Loops.{ask_in_flight, gives_tray_up, is_loose, next_ask}
+use Rattle.tp_event_rules.specs.Moments.{is_to_tray}
+use Rattle.tp_event_rules.specs.Seen.{HasNextCopy, HasStarted}
+use Rattle.tp_event_rules.specs.States.{SessionState}
+use Rattle.tp_event_rules.proofs.LeftPlans.{AreLeft, live_count-left}
+use Rattle.tp_event_rules.proofs.ListFacts.{find-Some}
+use Rattle.tp_event_rules.proofs.PlanOnFacts.{CanPlanOn-left, Contains-change_plan, IsLeft-to_purge}
+use Rattle.tp_event_rules.proofs.ReleasedPlans.{AreLeft-change_plan}
+use Rattle.tp_replan.specs.LooseLoop.{CanLoop, IsUnderWay, is_loose_in}
 use Rattle.tp_replan.specs.Meanings.{IsKnown}
 use Rattle.tp_replan.specs.Open.{is_in}
 use Rattle.tp_replan.proofs.AllFall.{StillCan, can-fall_back}

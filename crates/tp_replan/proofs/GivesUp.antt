@@ -2,12 +2,12 @@
 use Rattle.std.proofs.Common.{◌≡◌, [], ◌∷◌, Some, IsTrue, subst}
 use Rattle.tp_machine.specs.declared.machine.Machine.{Machine}
 use Rattle.tp_schedule.specs.declared.parts.Ask.{Ask}
-use Rattle.tp_turn.specs.Loops.{next_ask}
-use Rattle.tp_turn.specs.Moments.{is_to_tray}
-use Rattle.tp_turn.specs.States.{SessionState}
-use Rattle.tp_replan.specs.Looping.{CanLoop}
+use Rattle.tp_event_rules.specs.Loops.{next_ask}
+use Rattle.tp_event_rules.specs.Moments.{is_to_tray}
+use Rattle.tp_event_rules.specs.States.{SessionState}
+use Rattle.tp_replan.specs.LooseLoop.{CanLoop}
 use Rattle.tp_replan.specs.Open.{CanFall}
-use Rattle.tp_replan.specs.Outing.{CanGiveUp, aimed_at_purge}
+use Rattle.tp_replan.specs.Displacement.{CanGiveUp, aimed_at_purge}
 use Rattle.tp_replan.proofs.AnswerSteps.{asked-known, asked-next}
 use Rattle.tp_replan.proofs.GivenUp.{can-given_up, first-loose}
 

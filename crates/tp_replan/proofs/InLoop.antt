@@ -1,19 +1,19 @@
 -- The loop from answer to answer, and where it ends.
 use Rattle.std.proofs.Common.{◌≡◌, ℕ, ◌<◌, List, [], ◌∷◌, ◌++◌, Some, None, refl, sym, ap, ◌∙◌, append-nil, append_assoc, subst}
 use Rattle.tp_machine.specs.declared.machine.Machine.{Machine}
-use Rattle.tp_schedule.specs.Planning.{CanAsk, Deed}
-use Rattle.tp_schedule.specs.Planning.Deed.{replied, settled}
+use Rattle.tp_schedule.specs.PlannerAnswers.{CanAsk, Deed}
+use Rattle.tp_schedule.specs.PlannerAnswers.Deed.{replied, settled}
 use Rattle.tp_schedule.specs.declared.parts.Ask.{Ask}
 use Rattle.tp_schedule.specs.declared.parts.Plan.{Plan}
 use Rattle.tp_schedule.specs.declared.records.Record.{Record}
-use Rattle.tp_turn.specs.Answering.{moves}
-use Rattle.tp_turn.specs.Loops.{after_one, after_answers, due, next_ask}
-use Rattle.tp_turn.specs.Planners.{IsRight, PlannerSteps, RunsLoop, StopsInLoop}
-use Rattle.tp_turn.specs.States.{SessionState}
-use Rattle.tp_turn.proofs.LoopFacts.{in_turn-one_more, state-after_one_more, told-after_one_more}
-use Rattle.tp_turn.proofs.SameMoment.{now-answers}
+use Rattle.tp_event_rules.specs.AnswerRecords.{moves}
+use Rattle.tp_event_rules.specs.Loops.{after_one, after_answers, due, next_ask}
+use Rattle.tp_event_rules.specs.Planners.{IsRight, PlannerSteps, RunsLoop, StopsInLoop}
+use Rattle.tp_event_rules.specs.States.{SessionState}
+use Rattle.tp_event_rules.proofs.LoopFacts.{in_turn-one_more, state-after_one_more, told-after_one_more}
+use Rattle.tp_event_rules.proofs.SameMoment.{now-answers}
 use Rattle.tp_replan.specs.Answered.{IsAnswered, IsInLoop}
-use Rattle.tp_replan.specs.Looping.{CanLoop, copies_left}
+use Rattle.tp_replan.specs.LooseLoop.{CanLoop, copies_left}
 use Rattle.tp_replan.proofs.GivenUp.{first-loose}
 use Rattle.tp_replan.proofs.LoopAsks.{can-ask}
 use Rattle.tp_replan.proofs.LoopSteps.{IsLessWork, less-work, loop-step, work}

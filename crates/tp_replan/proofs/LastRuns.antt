@@ -4,11 +4,11 @@ use Rattle.std.specs.List.{list_any}
 use Rattle.std.proofs.lemmas.Bool.Decides.{nat_tests}
 use Rattle.std.proofs.lemmas.Option.{get_or_from_slice_get}
 use Rattle.tp_machine.specs.declared.parts.ActId.{ActId}
-use Rattle.tp_schedule.specs.Holding.{runs_from}
+use Rattle.tp_schedule.specs.Holders.{runs_from}
 use Rattle.tp_schedule.specs.Plans.{IsFormed, point}
 use Rattle.tp_schedule.specs.declared.parts.Plan.{Plan}
 use Rattle.tp_schedule.specs.declared.parts.SheetId.{SheetId}
-use Rattle.tp_turn.specs.Moments.{is_entering, is_running, is_tray_plan}
+use Rattle.tp_event_rules.specs.Moments.{is_entering, is_running, is_tray_plan}
 
 -- only the last of the actions has the last number
 last_runs : (now : ℕ) (sheet : SheetId) (n total : ℕ) (acts : List ActId) (points : List ℕ) (i : ℕ) → length acts ≡ suc i → length points ≡ length acts + 1 → n + i ≡ total

@@ -21,7 +21,7 @@ pub mod LoopFalls
 pub mod LoopSteps
 pub mod OutStarts
 pub mod Shown
-pub mod Beginning
+pub mod LoopStart
 pub mod FindFacts
 pub mod DueRuns
 pub mod AnswerFacts

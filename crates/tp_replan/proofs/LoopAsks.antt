@@ -6,16 +6,16 @@ use Rattle.std.proofs.lemmas.Bool.Decides.{nat_tests}
 use Rattle.std.proofs.lemmas.List.Folds.{list_any_at}
 use Rattle.std.proofs.lemmas.List.Elements.{All-contains}
 use Rattle.tp_machine.specs.Steps.{can_step, step_of, after}
-use Rattle.tp_machine.specs.Using.{action_at}
+use Rattle.tp_machine.specs.ModuleUse.{action_at}
 use Rattle.tp_machine.specs.declared.parts.ActId.{ActId}
 use Rattle.tp_machine.specs.declared.parts.Action.{Action}
 use Rattle.tp_machine.specs.declared.parts.LocId.{LocId}
 use Rattle.tp_machine.specs.declared.parts.Sheet.{Sheet}
 use Rattle.tp_machine.specs.declared.parts.State.{State}
 use Rattle.tp_machine.specs.declared.machine.Machine.{Machine}
-use Rattle.tp_schedule.specs.Holding.{runs_from}
-use Rattle.tp_schedule.specs.Living.{is_live, live_count}
-use Rattle.tp_schedule.specs.Planning.{CanAsk, IsKnownGoal, IsOpenGoal}
+use Rattle.tp_schedule.specs.Holders.{runs_from}
+use Rattle.tp_schedule.specs.LivePlans.{is_live, live_count}
+use Rattle.tp_schedule.specs.PlannerAnswers.{CanAsk, IsKnownGoal, IsOpenGoal}
 use Rattle.tp_schedule.specs.Plans.{IsTimedPlan, end_of_plan, is_front, is_same_copy, point, without}
 use Rattle.tp_schedule.specs.Routes.{IsFreshStart, fresh, walk}
 use Rattle.tp_schedule.specs.declared.parts.Goal.{Goal}
@@ -27,13 +27,13 @@ use Rattle.tp_schedule.specs.declared.parts.SheetId.{SheetId}
 use Rattle.tp_schedule.proofs.CopyFacts.{plan_of-itself, same_copy-refl}
 use Rattle.tp_schedule.proofs.Membership.{Contains-cons_cases}
 use Rattle.tp_schedule.proofs.Walks.{walk_first}
-use Rattle.tp_turn.specs.Lines.{is_lost}
-use Rattle.tp_turn.specs.Labels.{last_of}
-use Rattle.tp_turn.specs.Loops.{ask_in_flight, first_location, from_in, is_loose, module_in, start_of, state_after}
-use Rattle.tp_turn.specs.Moments.{does_use, is_running, is_running_on, uses_in}
-use Rattle.tp_turn.specs.States.{SessionState}
-use Rattle.tp_turn.proofs.ListFacts.{Any-contains}
-use Rattle.tp_replan.specs.Looping.{IsUnderWay}
+use Rattle.tp_event_rules.specs.Lines.{is_lost}
+use Rattle.tp_event_rules.specs.Labels.{last_of}
+use Rattle.tp_event_rules.specs.Loops.{ask_in_flight, first_location, from_in, is_loose, module_in, start_of, state_after}
+use Rattle.tp_event_rules.specs.Moments.{does_use, is_running, is_running_on, uses_in}
+use Rattle.tp_event_rules.specs.States.{SessionState}
+use Rattle.tp_event_rules.proofs.ListFacts.{Any-contains}
+use Rattle.tp_replan.specs.LooseLoop.{IsUnderWay}
 use Rattle.tp_replan.proofs.OpenFacts.{and-first, count-cons}
 use Rattle.tp_replan.proofs.StillOnWay.{IsStateOnWay}
 

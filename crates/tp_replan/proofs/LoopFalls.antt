@@ -6,17 +6,17 @@ use Rattle.tp_schedule.specs.declared.parts.Plan.{Plan}
 use Rattle.tp_schedule.specs.declared.records.Record.TheVariants.{Again}
 use Rattle.tp_schedule.proofs.Membership.{Contains-cons_cases, Contains-here, Contains-later}
 use Rattle.tp_jobs.specs.Backlogs.{next_copy}
-use Rattle.tp_jobs.specs.Waiting.{put_waiting}
-use Rattle.tp_turn.specs.Fates as fates
-use Rattle.tp_turn.specs.Fates.{Fate as Befalls, befall, is_loss, left_by, left_of, to_purge}
-use Rattle.tp_turn.specs.FallBacks.{Displaced, fall_back, fall_back_unless_broken, fate_in_break, fate_in_fall_back, is_copy, is_line_entering, job_break, later_fall_back, next_waits}
-use Rattle.tp_turn.specs.Labels.{label}
-use Rattle.tp_turn.specs.Lines.{is_job_broken, is_lost}
-use Rattle.tp_turn.specs.Moments.{front_of, is_running_on, is_to_tray}
-use Rattle.tp_turn.specs.Outages.{displaced, fate_in_outage, fate_of_others, going_out, is_lost_by, outage}
-use Rattle.tp_turn.specs.States.{Outcome, SessionState, and_then, nothing_told}
-use Rattle.tp_turn.proofs.LessOutages.{for_each-keeps}
-use Rattle.tp_replan.specs.Looping.{copies_left, trays_left}
+use Rattle.tp_jobs.specs.WaitingCopies.{put_waiting}
+use Rattle.tp_event_rules.specs.Fates as fates
+use Rattle.tp_event_rules.specs.Fates.{Fate as Befalls, befall, is_loss, left_by, left_of, to_purge}
+use Rattle.tp_event_rules.specs.FallBacks.{Displaced, fall_back, fall_back_unless_broken, fate_in_break, fate_in_fall_back, is_copy, is_line_entering, job_break, later_fall_back, next_waits}
+use Rattle.tp_event_rules.specs.Labels.{label}
+use Rattle.tp_event_rules.specs.Lines.{is_job_broken, is_lost}
+use Rattle.tp_event_rules.specs.Moments.{front_of, is_running_on, is_to_tray}
+use Rattle.tp_event_rules.specs.Outages.{displaced, fate_in_outage, fate_of_others, going_out, is_lost_by, outage}
+use Rattle.tp_event_rules.specs.States.{Outcome, SessionState, and_then, nothing_told}
+use Rattle.tp_event_rules.proofs.LessOutages.{for_each-keeps}
+use Rattle.tp_replan.specs.LooseLoop.{copies_left, trays_left}
 use Rattle.tp_replan.proofs.OpenFacts.{count-append, count-cons}
 use Rattle.tp_replan.proofs.StillFall.{now-lost, still-lost}
 

@@ -2,10 +2,10 @@
 use Rattle.std.proofs.Common.{◌≡◌, ◌⊎◌, ℕ, ◌+◌, ◌*◌, ◌<◌, ◌≤◌, Bool, true, false, cond, not, ◌&&◌, ◌||◌, List, [], ◌∷◌, Some, Contains, refl, sym, ap, ◌∙◌, arith, subst, count_by, inl, inr}
 use Rattle.std.specs.List.{list_any}
 use Rattle.std.proofs.Math.Nat.{mul-le-mul_right}
-use Rattle.tp_machine.specs.Using.{action_at}
+use Rattle.tp_machine.specs.ModuleUse.{action_at}
 use Rattle.tp_machine.specs.declared.machine.Machine.{Machine}
 use Rattle.tp_schedule.specs.Answers.{acts_in}
-use Rattle.tp_schedule.specs.Planning.{IsAnswer}
+use Rattle.tp_schedule.specs.PlannerAnswers.{IsAnswer}
 use Rattle.tp_schedule.specs.Plans.{change_plan, is_front, is_same_copy}
 use Rattle.tp_schedule.specs.declared.parts.Ask.{Ask}
 use Rattle.tp_schedule.specs.declared.parts.Goal.{Goal}
@@ -14,16 +14,16 @@ use Rattle.tp_schedule.specs.declared.parts.Plan.{Plan}
 use Rattle.tp_schedule.specs.declared.parts.Reply.{Reply}
 use Rattle.tp_schedule.specs.declared.parts.Reply.TheVariants.{Planned, Never, Spent}
 use Rattle.tp_schedule.proofs.CopyFacts.{plan_of-itself}
-use Rattle.tp_turn.specs.Answering.{Answer}
-use Rattle.tp_turn.specs.Fates.{to_purge}
-use Rattle.tp_turn.specs.FallBacks.{is_copy}
-use Rattle.tp_turn.specs.Labels.{last_of}
-use Rattle.tp_turn.specs.Laws.{IsPlannable}
-use Rattle.tp_turn.specs.Lines.{is_lost}
-use Rattle.tp_turn.specs.Loops.{after_asked, after_one, after_reply, ask_in_flight, gets_stuck, gives_tray_up, is_loose, module_in, next_ask, not_planned, stuck_module}
-use Rattle.tp_turn.specs.Moments.{is_running_on, is_to_tray}
-use Rattle.tp_turn.specs.States.{SessionState}
-use Rattle.tp_replan.specs.Looping.{CanLoop, copies_left, loose_left, trays_left}
+use Rattle.tp_event_rules.specs.AnswerRecords.{Answer}
+use Rattle.tp_event_rules.specs.Fates.{to_purge}
+use Rattle.tp_event_rules.specs.FallBacks.{is_copy}
+use Rattle.tp_event_rules.specs.Labels.{last_of}
+use Rattle.tp_event_rules.specs.Laws.{IsPlannable}
+use Rattle.tp_event_rules.specs.Lines.{is_lost}
+use Rattle.tp_event_rules.specs.Loops.{after_asked, after_one, after_reply, ask_in_flight, gets_stuck, gives_tray_up, is_loose, module_in, next_ask, not_planned, stuck_module}
+use Rattle.tp_event_rules.specs.Moments.{is_running_on, is_to_tray}
+use Rattle.tp_event_rules.specs.States.{SessionState}
+use Rattle.tp_replan.specs.LooseLoop.{CanLoop, copies_left, loose_left, trays_left}
 use Rattle.tp_replan.proofs.GivenUp.{IsFirstLoose, count-change, first-loose, loop-given_up}
 use Rattle.tp_replan.proofs.LoopAsks.{stuck-runs}
 use Rattle.tp_replan.proofs.LoopFalls.{fewer-fall_back, jam-loses}

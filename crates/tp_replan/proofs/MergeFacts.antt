@@ -12,11 +12,11 @@ use Rattle.std.proofs.lemmas.List.{length-drop}
 use Rattle.tp_jobs.specs.declared.parts.Job.{Job}
 use Rattle.tp_schedule.specs.declared.records.Record.{Record}
 use Rattle.tp_schedule.specs.declared.records.Record.TheVariants.{Drop}
-use Rattle.tp_turn.specs.Fates.{Fate as Befalls, told_of}
-use Rattle.tp_turn.specs.Labels.{label}
+use Rattle.tp_event_rules.specs.Fates.{Fate as Befalls, told_of}
+use Rattle.tp_event_rules.specs.Labels.{label}
 use Rattle.tp_replan.specs.Meanings.{StandsBefore, is_copy_next, notice_of_copy, notice_of_plan, told_by_copy}
 use Rattle.tp_replan.proofs.LeftFacts.{drop_from}
-use Rattle.tp_turn.specs.FallBacks.{Notice, by_copy, put_notice}
+use Rattle.tp_event_rules.specs.FallBacks.{Notice, by_copy, put_notice}
 
 -- a notice goes first that none of the others stands before
 put-first : (n : Notice) (ns : List Notice) → All (λ m. is_before m.sheet n.sheet ≡ false) ns → put_notice n ns ≡ n ∷ ns

@@ -7,28 +7,28 @@ use Rattle.std.proofs.lemmas.List.Elements.{All-contains}
 use Rattle.std.proofs.lemmas.List.Sums.{count_by-le-length}
 use Rattle.tp_machine.specs.declared.parts.ActId.{ActId}
 use Rattle.tp_machine.specs.declared.machine.Machine.{Machine}
-use Rattle.tp_schedule.specs.Holding.{Run, runs_from, runs_of}
+use Rattle.tp_schedule.specs.Holders.{Run, runs_from, runs_of}
 use Rattle.tp_schedule.specs.Legality.{EndsBefore}
-use Rattle.tp_schedule.specs.Living.{live_count}
-use Rattle.tp_schedule.specs.Planning.{IsKnownGoal}
+use Rattle.tp_schedule.specs.LivePlans.{live_count}
+use Rattle.tp_schedule.specs.PlannerAnswers.{IsKnownGoal}
 use Rattle.tp_schedule.specs.Plans.{IsEarlier, IsTimedPlan, end_of_plan, goes_to, is_before, is_delivered_to, is_front, point}
 use Rattle.tp_schedule.specs.declared.parts.Plan.{Plan}
 use Rattle.tp_schedule.specs.declared.parts.SheetId.{SheetId}
 use Rattle.tp_schedule.proofs.CopyFacts.{before-asym}
 use Rattle.tp_schedule.proofs.Membership.{All-from_contains, Contains-cons_cases, Contains-here, Contains-later}
 use Rattle.tp_schedule.proofs.Pairs.{AllPairs-cons, AllPairs-either, AllPairs-head, AllPairs-nil, AllPairs-tail}
-use Rattle.tp_turn.proofs.ListFacts.{All-both}
-use Rattle.tp_turn.specs.Fates.{Fate as Befalls, befall, is_cut_by, is_loss, left_by, left_of, to_purge}
-use Rattle.tp_turn.specs.Lines.{is_lost}
-use Rattle.tp_turn.specs.Moments.{front_of, is_started, is_unstarted, started_count}
-use Rattle.tp_turn.specs.States.{SessionState}
-use Rattle.tp_turn.proofs.CutPlans.{AreLeft-one, length-runs_from}
-use Rattle.tp_turn.proofs.LeftPlans.{AreLeft, none, live_count-left}
-use Rattle.tp_turn.proofs.PlanOnFacts.{fates_keep_planning}
-use Rattle.tp_outages.proofs.Flight.{started-are}
-use Rattle.tp_replan.specs.Looping.{IsOnWay, IsUnderWay, is_loose_in}
+use Rattle.tp_event_rules.proofs.ListFacts.{All-both}
+use Rattle.tp_event_rules.specs.Fates.{Fate as Befalls, befall, is_cut_by, is_loss, left_by, left_of, to_purge}
+use Rattle.tp_event_rules.specs.Lines.{is_lost}
+use Rattle.tp_event_rules.specs.Moments.{front_of, is_started, is_unstarted, started_count}
+use Rattle.tp_event_rules.specs.States.{SessionState}
+use Rattle.tp_event_rules.proofs.CutPlans.{AreLeft-one, length-runs_from}
+use Rattle.tp_event_rules.proofs.LeftPlans.{AreLeft, none, live_count-left}
+use Rattle.tp_event_rules.proofs.PlanOnFacts.{fates_keep_planning}
+use Rattle.tp_outage_laws.proofs.Flight.{started-are}
+use Rattle.tp_replan.specs.LooseLoop.{IsOnWay, IsUnderWay, is_loose_in}
 use Rattle.tp_replan.proofs.StillFall.{is_purged_by, now-lost, still-lost}
-use Rattle.tp_turn.specs.Fates as fates
+use Rattle.tp_event_rules.specs.Fates as fates
 
 -- a run that ends after the moment, so that the plan does
 Rises : ℕ → List ℕ → Type 0

@@ -3,7 +3,7 @@ use Rattle.std.proofs.Common.{◌≡◌, ℕ, ◌+◌, ◌<◌, ◌≤◌, Bool,
 use Rattle.std.proofs.lemmas.Bool.Decides.{nat_tests}
 use Rattle.std.proofs.lemmas.Option.{get_or_from_slice_get, slice_get_within}
 use Rattle.tp_machine.specs.declared.parts.ActId.{ActId}
-use Rattle.tp_schedule.specs.Holding.{Run, runs_from}
+use Rattle.tp_schedule.specs.Holders.{Run, runs_from}
 use Rattle.std.proofs.lemmas.List.{length-map}
 use Rattle.std.proofs.lemmas.List.Concat.{flat_map-cons}
 use Rattle.std.proofs.lemmas.List.Sums.{sum_by-append}
@@ -11,15 +11,15 @@ use Rattle.tp_schedule.specs.Plans.{IsFormed, is_before, is_same_copy, point}
 use Rattle.tp_schedule.specs.declared.parts.Plan.{Plan}
 use Rattle.tp_schedule.specs.declared.parts.SheetId.{SheetId}
 use Rattle.tp_schedule.proofs.Membership.{Contains-here, Contains-later}
-use Rattle.tp_jobs.specs.Waiting.{find_waiting, put_waiting}
+use Rattle.tp_jobs.specs.WaitingCopies.{find_waiting, put_waiting}
 use Rattle.tp_jobs.specs.declared.parts.WaitingCopy.{WaitingCopy}
-use Rattle.tp_turn.specs.Fates as fates
-use Rattle.tp_turn.specs.Fates.{Fate as Befalls, is_cut_by, waits_for}
-use Rattle.tp_turn.specs.Moments.{is_in_flight, is_started, is_to_tray, is_unstarted, started_count}
-use Rattle.tp_turn.specs.Seen.{HasStarted}
-use Rattle.tp_turn.specs.FallBacks.{fate_in_fall_back, is_copy, is_later, is_on_its_way}
-use Rattle.tp_turn.specs.Lines.{is_same_line}
-use Rattle.tp_turn.specs.States.{SessionState}
+use Rattle.tp_event_rules.specs.Fates as fates
+use Rattle.tp_event_rules.specs.Fates.{Fate as Befalls, is_cut_by, waits_for}
+use Rattle.tp_event_rules.specs.Moments.{is_in_flight, is_started, is_to_tray, is_unstarted, started_count}
+use Rattle.tp_event_rules.specs.Seen.{HasStarted}
+use Rattle.tp_event_rules.specs.FallBacks.{fate_in_fall_back, is_copy, is_later, is_on_its_way}
+use Rattle.tp_event_rules.specs.Lines.{is_same_line}
+use Rattle.tp_event_rules.specs.States.{SessionState}
 use Rattle.tp_replan.specs.Meanings.{AreCutStarted, CanAllWait, meant, waits_in}
 use Rattle.tp_replan.specs.Open.{CanFall, Fits, Group, all_copies, is_in, is_open, is_waiting_after, most_in, open_count, most_waiting, one_sheet}
 use Rattle.tp_replan.specs.declared.fate.Fate.{Fate}

@@ -2,16 +2,16 @@
 use Rattle.std.proofs.Common.{◌≡◌, ℕ, ◌≤◌, Bool, true, false, cond, not, ◌&&◌, ◌||◌, List, [], ◌∷◌, map, refl, ap, ◌∙◌, arith, count_by, nat_lt}
 use Rattle.std.specs.List.{list_any}
 use Rattle.tp_machine.specs.declared.machine.Machine.{Machine}
-use Rattle.tp_schedule.specs.Holding.{Run, runs_of}
+use Rattle.tp_schedule.specs.Holders.{Run, runs_of}
 use Rattle.tp_schedule.specs.Plans.{IsFormed}
 use Rattle.tp_schedule.specs.declared.parts.Plan.{Plan}
-use Rattle.tp_turn.specs.Fates as fates
-use Rattle.tp_turn.specs.Fates.{Fate as Befalls}
-use Rattle.tp_turn.specs.FallBacks.{is_copy}
-use Rattle.tp_turn.specs.Moments.{does_use, is_running, is_running_on, is_started, is_to_run_on, is_to_tray, is_unstarted}
-use Rattle.tp_turn.specs.Outages.{fate_in_outage, fate_of_running, fate_unless_lost, is_lost_by}
-use Rattle.tp_turn.specs.Seen.{HasStarted}
-use Rattle.tp_turn.specs.States.{SessionState}
+use Rattle.tp_event_rules.specs.Fates as fates
+use Rattle.tp_event_rules.specs.Fates.{Fate as Befalls}
+use Rattle.tp_event_rules.specs.FallBacks.{is_copy}
+use Rattle.tp_event_rules.specs.Moments.{does_use, is_running, is_running_on, is_started, is_to_run_on, is_to_tray, is_unstarted}
+use Rattle.tp_event_rules.specs.Outages.{fate_in_outage, fate_of_running, fate_unless_lost, is_lost_by}
+use Rattle.tp_event_rules.specs.Seen.{HasStarted}
+use Rattle.tp_event_rules.specs.States.{SessionState}
 use Rattle.tp_replan.specs.Meanings.{lost_alone, lost_aside, meant}
 use Rattle.tp_replan.specs.Open.{Fits}
 use Rattle.tp_replan.specs.declared.fate.Fate.{Fate}

@@ -4,7 +4,7 @@ use Rattle.std.specs.Prelude.{IsFalse}
 use Rattle.std.specs.List.{list_any}
 use Rattle.std.specs.Str.{bytes_eq}
 use Rattle.tp_jobs.specs.Backlogs.{tray_of}
-use Rattle.tp_turn.specs.Labels.{job_name}
+use Rattle.tp_event_rules.specs.Labels.{job_name}
 use Rattle.std.proofs.lemmas.Bool.Decides.{nat_tests}
 use Rattle.std.proofs.lemmas.List.{length-append, length-map}
 use Rattle.std.proofs.lemmas.List.Elements.{All-head, All-tail, All-weaker}
@@ -17,11 +17,11 @@ use Rattle.tp_schedule.proofs.CopyFacts.{same_copy-refl}
 use Rattle.tp_schedule.proofs.Membership.{All-from_contains, Contains-cons_cases, Contains-filter, Contains-here, Contains-later, Contains-map}
 use Rattle.tp_schedule.proofs.Pairs.{AllPairs-head, AllPairs-tail}
 use Rattle.tp_jobs.specs.declared.parts.WaitingCopy.{WaitingCopy}
-use Rattle.tp_turn.specs.Keeping.{KeepsLines, is_copy_of, is_known, is_of_its_job, is_own_goal, is_same_sheet, open_copies, tray_plans}
-use Rattle.tp_turn.specs.Lines.{is_lost}
-use Rattle.tp_turn.specs.Moments.{is_to_tray, is_tray_plan}
-use Rattle.tp_turn.specs.States.{SessionState}
-use Rattle.tp_replan.specs.Looping.{CanBeginLoop, CanLoop, IsUnderWay, is_loose_in}
+use Rattle.tp_event_rules.specs.StateInvariants.{KeepsLines, is_copy_of, is_known, is_of_its_job, is_own_goal, is_same_sheet, open_copies, tray_plans}
+use Rattle.tp_event_rules.specs.Lines.{is_lost}
+use Rattle.tp_event_rules.specs.Moments.{is_to_tray, is_tray_plan}
+use Rattle.tp_event_rules.specs.States.{SessionState}
+use Rattle.tp_replan.specs.LooseLoop.{CanBeginLoop, CanLoop, IsUnderWay, is_loose_in}
 use Rattle.tp_replan.specs.Meanings.{IsKnown}
 use Rattle.tp_replan.specs.Open.{Group, is_in, is_open, most_in, open_count}
 use Rattle.tp_replan.proofs.OpenFacts.{and-first, and-second, count-append, count-cons, is_of_sheet, is_open_of}

@@ -7,8 +7,8 @@ use Rattle.std.proofs.lemmas.List.Sums.{length-filter}
 use Rattle.tp_machine.specs.declared.parts.ActId.{ActId}
 use Rattle.tp_machine.specs.declared.machine.Machine.{Machine}
 use Rattle.tp_schedule.specs.Answers.{IsAlternative, acts_in, kept_acts}
-use Rattle.tp_schedule.specs.Living.{is_live, live_count}
-use Rattle.tp_schedule.specs.Planning.{IsAnswer, IsKnownGoal}
+use Rattle.tp_schedule.specs.LivePlans.{is_live, live_count}
+use Rattle.tp_schedule.specs.PlannerAnswers.{IsAnswer, IsKnownGoal}
 use Rattle.tp_schedule.specs.Plans.{IsEarlier, IsTimedPlan, change_plan, end_of_plan, goes_to, is_before, is_delivered_to, is_front, is_same_copy, plan_of, point, without}
 use Rattle.tp_schedule.specs.declared.parts.Ask.{Ask}
 use Rattle.tp_schedule.specs.declared.parts.Plan.{Plan}
@@ -16,22 +16,22 @@ use Rattle.tp_schedule.specs.declared.parts.SheetId.{SheetId}
 use Rattle.tp_schedule.proofs.CopyFacts.{before-not_same', plan_of-itself, same_copy-is, same_copy-refl}
 use Rattle.tp_schedule.proofs.Membership.{All-from_contains, Contains-filter_from}
 use Rattle.tp_schedule.proofs.Pairs.{AllPairs-head, AllPairs-tail}
-use Rattle.tp_turn.proofs.ListFacts.{find-Some}
-use Rattle.tp_turn.specs.Answering.{Answer}
-use Rattle.tp_turn.specs.Laws.{IsPlannable}
-use Rattle.tp_turn.specs.Lines.{is_lost}
-use Rattle.tp_turn.specs.Loops.{after_one, ask_in_flight, is_loose, next_ask, planned}
-use Rattle.tp_turn.specs.Moments.{is_to_tray, release_until}
-use Rattle.tp_turn.specs.Planners.{IsRight, PlannerSteps}
-use Rattle.tp_turn.specs.Seen.{HasNextCopy, HasStarted}
-use Rattle.tp_turn.specs.States.{SessionState}
-use Rattle.tp_turn.proofs.AnsweredPlans.{IsUnmoved, mine-is, other-from, unmoved-sheet}
-use Rattle.tp_turn.proofs.AskedPlans.{count-unmoved, live-before, low-stays}
-use Rattle.tp_turn.proofs.LeftPlans.{live_count-left}
-use Rattle.tp_turn.proofs.PlanOnFacts.{Contains-change_plan}
-use Rattle.tp_turn.proofs.PlannableTurns.{plannable-answers}
-use Rattle.tp_turn.proofs.ReleasedPlans.{AreLeft-change_plan, IsLeft-release}
-use Rattle.tp_replan.specs.Looping.{CanLoop, IsUnderWay, is_loose_in}
+use Rattle.tp_event_rules.proofs.ListFacts.{find-Some}
+use Rattle.tp_event_rules.specs.AnswerRecords.{Answer}
+use Rattle.tp_event_rules.specs.Laws.{IsPlannable}
+use Rattle.tp_event_rules.specs.Lines.{is_lost}
+use Rattle.tp_event_rules.specs.Loops.{after_one, ask_in_flight, is_loose, next_ask, planned}
+use Rattle.tp_event_rules.specs.Moments.{is_to_tray, release_until}
+use Rattle.tp_event_rules.specs.Planners.{IsRight, PlannerSteps}
+use Rattle.tp_event_rules.specs.Seen.{HasNextCopy, HasStarted}
+use Rattle.tp_event_rules.specs.States.{SessionState}
+use Rattle.tp_event_rules.proofs.AnsweredPlans.{IsUnmoved, mine-is, other-from, unmoved-sheet}
+use Rattle.tp_event_rules.proofs.AskedPlans.{count-unmoved, live-before, low-stays}
+use Rattle.tp_event_rules.proofs.LeftPlans.{live_count-left}
+use Rattle.tp_event_rules.proofs.PlanOnFacts.{Contains-change_plan}
+use Rattle.tp_event_rules.proofs.PlannableTurns.{plannable-answers}
+use Rattle.tp_event_rules.proofs.ReleasedPlans.{AreLeft-change_plan, IsLeft-release}
+use Rattle.tp_replan.specs.LooseLoop.{CanLoop, IsUnderWay, is_loose_in}
 use Rattle.tp_replan.specs.Meanings.{IsKnown}
 use Rattle.tp_replan.specs.Open.{CanFall, Group, is_in}
 use Rattle.tp_replan.proofs.GivenUp.{count-change}

@@ -7,10 +7,10 @@ use Rattle.tp_schedule.specs.Answers.{IsAlternative}
 use Rattle.tp_schedule.specs.Plans.{IsTimedPlan, end_of_plan, is_fixed, is_front, is_same_copy, plan_of, point}
 use Rattle.tp_schedule.specs.declared.parts.Plan.{Plan}
 use Rattle.tp_schedule.proofs.CopyFacts.{plan_of-itself}
-use Rattle.tp_turn.specs.Loops.{ask_in_flight}
-use Rattle.tp_turn.specs.States.{SessionState}
-use Rattle.tp_turn.proofs.AnsweredPlans.{IsUnmoved, unmoved-sheet}
-use Rattle.tp_turn.proofs.AskedPlans.{IsRetimedPlan}
+use Rattle.tp_event_rules.specs.Loops.{ask_in_flight}
+use Rattle.tp_event_rules.specs.States.{SessionState}
+use Rattle.tp_event_rules.proofs.AnsweredPlans.{IsUnmoved, unmoved-sheet}
+use Rattle.tp_event_rules.proofs.AskedPlans.{IsRetimedPlan}
 use Rattle.tp_replan.proofs.StillOnWay.{IsStateOnWay}
 
 -- a plan with the same points, but for its place in the schedule

@@ -6,16 +6,16 @@ use Rattle.std.proofs.lemmas.Option.{get_or_from_slice_get}
 use Rattle.tp_jobs.specs.declared.parts.Job.{Job}
 use Rattle.tp_machine.specs.declared.parts.ActId.{ActId}
 use Rattle.tp_machine.specs.declared.machine.Machine.{Machine}
-use Rattle.tp_schedule.specs.Holding.{Run, runs_of}
+use Rattle.tp_schedule.specs.Holders.{Run, runs_of}
 use Rattle.tp_schedule.specs.Plans.{IsFormed, point}
 use Rattle.tp_schedule.specs.declared.parts.Plan.{Plan}
 use Rattle.tp_schedule.specs.declared.records.Record.{Record}
 use Rattle.tp_schedule.specs.declared.records.Record.TheVariants.{Release}
 use Rattle.tp_schedule.specs.declared.records.SheetName.{SheetName}
-use Rattle.tp_turn.specs.Clock.{record_of, release_of}
-use Rattle.tp_turn.specs.Labels.{action_name, label}
-use Rattle.tp_turn.specs.Moments.{is_recalled, recalled}
-use Rattle.tp_turn.proofs.CutPlans.{length-runs_from}
+use Rattle.tp_event_rules.specs.Clock.{record_of, release_of}
+use Rattle.tp_event_rules.specs.Labels.{action_name, label}
+use Rattle.tp_event_rules.specs.Moments.{is_recalled, recalled}
+use Rattle.tp_event_rules.proofs.CutPlans.{length-runs_from}
 use Rattle.tp_replan.proofs.DueRuns.{due-takes, due_below, run_at, runs_from-at}
 use Rattle.tp_replan.proofs.FateFacts.{kept-more}
 use Rattle.tp_replan.proofs.TakenCopies.{take-whole}

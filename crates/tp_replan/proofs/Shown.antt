@@ -3,11 +3,11 @@ use Rattle.std.proofs.Common.{◌≡◌, ℕ, Bool, List, ap, ◌∙◌}
 use Rattle.std.specs.Prelude.{Result, Ok, Err, OnOk}
 use Rattle.tp_machine.specs.declared.machine.Machine.{Machine}
 use Rattle.tp_schedule.specs.declared.records.Record.{Record}
-use Rattle.tp_turn.specs.Outages.{outage}
-use Rattle.tp_turn.specs.Planners.{GoesOut, PlannerSteps}
-use Rattle.tp_turn.specs.States.{SessionState}
-use Rattle.tp_turn.proofs.LessOutages.{outages_keep_moment}
-use Rattle.tp_turn.proofs.SameMoment.{now-answers}
+use Rattle.tp_event_rules.specs.Outages.{outage}
+use Rattle.tp_event_rules.specs.Planners.{GoesOut, PlannerSteps}
+use Rattle.tp_event_rules.specs.States.{SessionState}
+use Rattle.tp_event_rules.proofs.LessOutages.{outages_keep_moment}
+use Rattle.tp_event_rules.proofs.SameMoment.{now-answers}
 
 pub moment-out : {P : Type 0} (steps : PlannerSteps P) (machine : Machine) (s : SessionState) (m : ℕ) (jam : Bool) (p : P) (records : List Record)
     (s' : SessionState) (p' : P) → GoesOut steps machine s m jam p records s' p' → s'.now ≡ s.now

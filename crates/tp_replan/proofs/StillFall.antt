@@ -5,22 +5,22 @@ use Rattle.std.proofs.lemmas.List.{get_or-take, length-take-le}
 use Rattle.std.proofs.lemmas.List.Concat.{flat_map-cons}
 use Rattle.std.proofs.lemmas.List.Elements.{All-append, All-nil, All-cons, All-contains}
 use Rattle.std.proofs.lemmas.List.Sums.{count_by-le-length}
-use Rattle.tp_schedule.specs.Holding.{runs_of}
+use Rattle.tp_schedule.specs.Holders.{runs_of}
 use Rattle.tp_schedule.specs.Plans.{IsFormed, is_same_copy, point}
 use Rattle.tp_schedule.specs.declared.parts.Plan.{Plan}
 use Rattle.tp_schedule.specs.declared.parts.SheetId.{SheetId}
 use Rattle.tp_schedule.proofs.CopyFacts.{same_copy-refl}
 use Rattle.tp_schedule.proofs.Membership.{Contains-cons_cases, Contains-here, Contains-later}
 use Rattle.tp_jobs.specs.Backlogs.{next_copy}
-use Rattle.tp_jobs.specs.Waiting.{put_waiting}
+use Rattle.tp_jobs.specs.WaitingCopies.{put_waiting}
 use Rattle.tp_jobs.specs.declared.parts.WaitingCopy.{WaitingCopy}
-use Rattle.tp_turn.specs.Fates as fates
-use Rattle.tp_turn.specs.Fates.{Fate as Befalls, befall, is_cut_by, is_loss, left_by, left_of, to_purge, waits_for}
-use Rattle.tp_turn.specs.Lines.{is_lost, put_all_waiting}
-use Rattle.tp_turn.specs.Moments.{front_of, is_started, is_to_tray, started_count}
-use Rattle.tp_turn.specs.Seen.{HasNextCopy, HasStarted}
-use Rattle.tp_turn.specs.States.{SessionState}
-use Rattle.tp_turn.proofs.CutPlans.{length-runs_from}
+use Rattle.tp_event_rules.specs.Fates as fates
+use Rattle.tp_event_rules.specs.Fates.{Fate as Befalls, befall, is_cut_by, is_loss, left_by, left_of, to_purge, waits_for}
+use Rattle.tp_event_rules.specs.Lines.{is_lost, put_all_waiting}
+use Rattle.tp_event_rules.specs.Moments.{front_of, is_started, is_to_tray, started_count}
+use Rattle.tp_event_rules.specs.Seen.{HasNextCopy, HasStarted}
+use Rattle.tp_event_rules.specs.States.{SessionState}
+use Rattle.tp_event_rules.proofs.CutPlans.{length-runs_from}
 use Rattle.tp_replan.specs.Meanings.{IsKnown}
 use Rattle.tp_replan.specs.Open.{CanFall, Fits, Group, is_in, is_open, is_waiting_after}
 use Rattle.tp_replan.proofs.OpenFacts.{count-append, count-cons, is_of_sheet, is_open_of, of_sheet, of_sheet-put}

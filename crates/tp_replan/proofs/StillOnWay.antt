@@ -8,18 +8,18 @@ use Rattle.tp_schedule.specs.declared.parts.Plan.{Plan}
 use Rattle.tp_schedule.specs.declared.parts.SheetId.{SheetId}
 use Rattle.tp_schedule.specs.declared.records.Record.TheVariants.{Again}
 use Rattle.tp_jobs.specs.Backlogs.{next_copy}
-use Rattle.tp_jobs.specs.Waiting.{put_waiting}
-use Rattle.tp_turn.specs.Fates as fates
-use Rattle.tp_turn.specs.Fates.{is_cut_by}
-use Rattle.tp_turn.specs.FallBacks.{Displaced, fall_back, fall_back_unless_broken, fate_in_break, fate_in_fall_back, is_copy, is_later, is_line_entering, is_on_its_way, job_break, later_fall_back, next_waits}
-use Rattle.tp_turn.specs.Labels.{label}
-use Rattle.tp_turn.specs.Lines.{is_job_broken}
-use Rattle.tp_turn.specs.Moments.{does_use, is_entering, is_in_flight, is_running, is_running_on, is_started, is_to_run_on, is_to_tray, is_unstarted}
-use Rattle.tp_turn.specs.Outages.{displaced, fate_in_outage, going_out, is_lost_by, outage}
-use Rattle.tp_turn.specs.States.{Outcome, SessionState, and_then, nothing_told}
-use Rattle.tp_turn.proofs.PlanOnFacts.{running-started}
-use Rattle.tp_turn.proofs.LessOutages.{for_each-keeps}
-use Rattle.tp_replan.specs.Looping.{CanLoop, IsOnWay}
+use Rattle.tp_jobs.specs.WaitingCopies.{put_waiting}
+use Rattle.tp_event_rules.specs.Fates as fates
+use Rattle.tp_event_rules.specs.Fates.{is_cut_by}
+use Rattle.tp_event_rules.specs.FallBacks.{Displaced, fall_back, fall_back_unless_broken, fate_in_break, fate_in_fall_back, is_copy, is_later, is_line_entering, is_on_its_way, job_break, later_fall_back, next_waits}
+use Rattle.tp_event_rules.specs.Labels.{label}
+use Rattle.tp_event_rules.specs.Lines.{is_job_broken}
+use Rattle.tp_event_rules.specs.Moments.{does_use, is_entering, is_in_flight, is_running, is_running_on, is_started, is_to_run_on, is_to_tray, is_unstarted}
+use Rattle.tp_event_rules.specs.Outages.{displaced, fate_in_outage, going_out, is_lost_by, outage}
+use Rattle.tp_event_rules.specs.States.{Outcome, SessionState, and_then, nothing_told}
+use Rattle.tp_event_rules.proofs.PlanOnFacts.{running-started}
+use Rattle.tp_event_rules.proofs.LessOutages.{for_each-keeps}
+use Rattle.tp_replan.specs.LooseLoop.{CanLoop, IsOnWay}
 use Rattle.tp_replan.proofs.AllFall.{can-outage}
 use Rattle.tp_replan.proofs.OnWay.{CutsRunning, befall-on, runs-late}
 use Rattle.tp_replan.proofs.OpenFacts.{and-first, and-second, and-third}

@@ -13,11 +13,11 @@ use Rattle.tp_schedule.proofs.Pairs.{AllPairs-head, AllPairs-tail}
 use Rattle.std.proofs.lemmas.List.Elements.{All-contains, All-head}
 use Rattle.tp_machine.specs.declared.parts.LocId.{LocId}
 use Rattle.tp_jobs.specs.Backlogs.{WaitsBefore, tray_of, unmarked}
-use Rattle.tp_jobs.specs.Trying.{comes_after, is_blocked, is_open, next_to_try}
-use Rattle.tp_jobs.specs.Waiting.{without_waiting}
+use Rattle.tp_jobs.specs.NextTry.{comes_after, is_blocked, is_open, next_to_try}
+use Rattle.tp_jobs.specs.WaitingCopies.{without_waiting}
 use Rattle.tp_jobs.specs.declared.parts.Job.{Job}
 use Rattle.tp_jobs.specs.declared.parts.WaitingCopy.{WaitingCopy}
-use Rattle.tp_turn.specs.Lines.{is_of_job}
+use Rattle.tp_event_rules.specs.Lines.{is_of_job}
 use Rattle.tp_replan.proofs.FateFacts.{kept-more, take-next}
 use Rattle.tp_replan.proofs.LeftFacts.{drop_from}
 

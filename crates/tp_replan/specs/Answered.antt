@@ -1,14 +1,14 @@
 -- The loop, as calls give it.
 use Rattle.std.specs.Prelude.{◌≡◌, List, ◌++◌, Some}
 use Rattle.tp_machine.specs.declared.machine.Machine.{Machine}
-use Rattle.tp_schedule.specs.Planning.Deed.{replied}
+use Rattle.tp_schedule.specs.PlannerAnswers.Deed.{replied}
 use Rattle.tp_schedule.specs.declared.parts.Ask.{Ask}
 use Rattle.tp_schedule.specs.declared.records.Record.{Record}
-use Rattle.tp_turn.specs.Answering.{Answer}
-use Rattle.tp_turn.specs.Loops.{after_one, after_answers, next_ask}
-use Rattle.tp_turn.specs.Planners.{AnswersInTurn, GoesOut, PlannerSteps, StopsGoingOut, StopsInLoop}
-use Rattle.tp_turn.specs.States.{SessionState}
-use Rattle.tp_replan.specs.Looping.{CanLoop}
+use Rattle.tp_event_rules.specs.AnswerRecords.{Answer}
+use Rattle.tp_event_rules.specs.Loops.{after_one, after_answers, next_ask}
+use Rattle.tp_event_rules.specs.Planners.{AnswersInTurn, GoesOut, PlannerSteps, StopsGoingOut, StopsInLoop}
+use Rattle.tp_event_rules.specs.States.{SessionState}
+use Rattle.tp_replan.specs.LooseLoop.{CanLoop}
 use Rattle.tp_replan.specs.declared.outage.Outage.{Outage}
 
 module _ {P : Type 0} (planner_steps : PlannerSteps P) (machine : Machine) where

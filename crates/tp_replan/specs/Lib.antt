@@ -1,5 +1,5 @@
 pub mod Meanings
 pub mod Open
-pub mod Outing
-pub mod Looping
+pub mod Displacement
+pub mod LooseLoop
 pub mod Answered

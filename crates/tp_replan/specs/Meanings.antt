@@ -9,14 +9,14 @@ use Rattle.tp_schedule.specs.declared.records.Record.TheVariants.{Withdraw, Cut 
 use Rattle.tp_jobs.specs.Backlogs.{next_copy}
 use Rattle.tp_jobs.specs.declared.parts.Job.{Job}
 use Rattle.tp_jobs.specs.declared.parts.WaitingCopy.{WaitingCopy}
-use Rattle.tp_jobs.specs.Waiting.{find_waiting, put_waiting}
-use Rattle.tp_turn.specs.Fates as fates
-use Rattle.tp_turn.specs.Fates.{Fate as Befalls, is_cut_by, told_of, waits_for}
-use Rattle.tp_turn.specs.FallBacks.{Notice, by_copy}
-use Rattle.tp_turn.specs.Clock.{record_of, release_of}
-use Rattle.tp_turn.specs.Moments.{due_until, started_count}
-use Rattle.tp_turn.specs.Labels.{label}
-use Rattle.tp_turn.specs.States.{Outcome, SessionState}
+use Rattle.tp_jobs.specs.WaitingCopies.{find_waiting, put_waiting}
+use Rattle.tp_event_rules.specs.Fates as fates
+use Rattle.tp_event_rules.specs.Fates.{Fate as Befalls, is_cut_by, told_of, waits_for}
+use Rattle.tp_event_rules.specs.FallBacks.{Notice, by_copy}
+use Rattle.tp_event_rules.specs.Clock.{record_of, release_of}
+use Rattle.tp_event_rules.specs.Moments.{due_until, started_count}
+use Rattle.tp_event_rules.specs.Labels.{label}
+use Rattle.tp_event_rules.specs.States.{Outcome, SessionState}
 use Rattle.tp_replan.specs.declared.fate.Fate.{Fate}
 use Rattle.tp_replan.specs.declared.fate.Fate.TheVariants.{Stays, Lost, Withdrawn, Cut, Purged, Replaced, Dropped}
 

@@ -2,13 +2,13 @@
 use Rattle.std.specs.Prelude.{ℕ, ◌+◌, ◌≤◌, Bool, true, false, ◌&&◌, ◌||◌, List, [], ◌∷◌, All, IsTrue, count_by, if◌then◌else◌}
 use Rattle.tp_schedule.specs.declared.parts.Plan.{Plan}
 use Rattle.tp_schedule.specs.declared.parts.SheetId.{SheetId}
-use Rattle.tp_turn.specs.Fates as fates
-use Rattle.tp_turn.specs.Fates.{Fate, is_cut_by}
-use Rattle.tp_turn.specs.FallBacks.{Displaced, is_copy}
-use Rattle.tp_turn.specs.Keeping.{is_copy_of}
-use Rattle.tp_turn.specs.Moments.{is_to_tray, started_count}
-use Rattle.tp_turn.specs.Seen.{HasNextCopy, HasStarted}
-use Rattle.tp_turn.specs.States.{SessionState}
+use Rattle.tp_event_rules.specs.Fates as fates
+use Rattle.tp_event_rules.specs.Fates.{Fate, is_cut_by}
+use Rattle.tp_event_rules.specs.FallBacks.{Displaced, is_copy}
+use Rattle.tp_event_rules.specs.StateInvariants.{is_copy_of}
+use Rattle.tp_event_rules.specs.Moments.{is_to_tray, started_count}
+use Rattle.tp_event_rules.specs.Seen.{HasNextCopy, HasStarted}
+use Rattle.tp_event_rules.specs.States.{SessionState}
 use Rattle.tp_replan.specs.Meanings.{IsKnown}
 
 -- a planned copy is open where it is not lost and its goal is its tray

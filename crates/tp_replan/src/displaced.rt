@@ -14,7 +14,7 @@ pub(crate) struct Displaced {
 
 // Clauses see the same three under the name that they have where turns are defined.
 impl Model for Displaced {
-    ghost use Rattle.tp_turn.specs.FallBacks.{Displaced as Moved};
+    ghost use Rattle.tp_event_rules.specs.FallBacks.{Displaced as Moved};
 
     ghost Value = { Moved };
 

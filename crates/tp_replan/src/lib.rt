@@ -1,24 +1,24 @@
 //! A module goes out: what befalls the copies that are planned.
 #![tactic(auto)]
 
-mod asking;
-mod befalling;
-mod breaking;
+mod copy_labels;
 mod displaced;
-mod falling_back;
+mod early_release;
+mod fall_backs;
 mod fate;
-mod fates;
-mod giving_up;
-mod going_out;
-mod handling;
-mod leaving;
-mod looping;
-mod losing;
+mod fate_effects;
+mod fate_records;
+mod fate_rules;
+mod job_break;
+mod loose_ask;
+mod loose_loop;
+mod lost_copies;
+mod module_out;
 mod moments;
-mod naming;
 mod outage;
-mod releasing;
-mod telling;
+mod outage_turn;
+mod remaining_plans;
+mod unplanned_copy;
 
-pub use handling::{go_out, handle_out};
 pub use outage::Outage;
+pub use outage_turn::{go_out, handle_out};

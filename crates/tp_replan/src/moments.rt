@@ -2,12 +2,12 @@
 
 ghost use Rattle.std.specs.Prelude.{◌≡◌, ℕ, ◌≤◌, ◌&&◌, not, nat_le, nat_lt, length, count_by};
 ghost use Rattle.std.specs.List.{list_any};
-ghost use Rattle.tp_schedule.specs.Holding.{runs_from};
+ghost use Rattle.tp_schedule.specs.Holders.{runs_from};
 ghost use Rattle.tp_schedule.specs.Plans.{IsFormed};
 ghost use Rattle.tp_schedule.specs.declared.parts.SheetId.{SheetId};
-ghost use Rattle.tp_turn.specs.Moments.{does_use, is_entering, is_in_flight, is_running};
-ghost use Rattle.tp_turn.specs.Moments.{is_running_on, is_started, is_to_run_on, is_to_tray};
-ghost use Rattle.tp_turn.specs.Moments.{is_tray_plan, is_unstarted, started_count};
+ghost use Rattle.tp_event_rules.specs.Moments.{does_use, is_entering, is_in_flight, is_running};
+ghost use Rattle.tp_event_rules.specs.Moments.{is_running_on, is_started, is_to_run_on, is_to_tray};
+ghost use Rattle.tp_event_rules.specs.Moments.{is_tray_plan, is_unstarted, started_count};
 
 use tp_base::Tick;
 use tp_machine::{ActId, Machine, ModId, uses};

@@ -12,7 +12,7 @@ use Rattle.tp_routes.specs.declared.index.ActEnd.{ActEnd}
 use Rattle.tp_routes.specs.declared.index.ActEnd.TheVariants.{From, To}
 use Rattle.tp_routes.specs.Numbers.{state_at}
 use Rattle.tp_routes.specs.Tables.{sum_at}
-use Rattle.tp_routes.specs.Filling.{Waits, IsStepIn, IsSpreadTo, IsFilling, Lowers, left_to_fill}
+use Rattle.tp_routes.specs.FilledRooms.{Waits, IsStepIn, IsSpreadTo, IsFilling, Lowers, left_to_fill}
 
 no_step : (a : Action) (sheet : Sheet) (s : State) → a.from.0 ≢ s.loc.0 → step_of a sheet s ≡ None
 no_step a sheet s differs = (let other : eqb s.loc.0 a.from.0 ≡ false = ne_eqb s.loc.0 a.from.0 (λ e. differs (sym e)) in rw other refl)

@@ -10,7 +10,7 @@ use Rattle.tp_machine.specs.declared.machine.Machine.{Machine}
 use Rattle.tp_schedule.specs.declared.parts.Ask.{Ask}
 use Rattle.tp_routes.specs.Numbers.{number_of, state_at}
 use Rattle.tp_routes.specs.Tables.{sum_at}
-use Rattle.tp_routes.specs.Filling.{is_lower, lowered, IsQueue, IsSum, filled, one_if_some, worth, left_to_fill, IsFilling, Lowers}
+use Rattle.tp_routes.specs.FilledRooms.{is_lower, lowered, IsQueue, IsSum, filled, one_if_some, worth, left_to_fill, IsFilling, Lowers}
 use Rattle.tp_routes.proofs.NumberFacts.{state_of_number}
 
 -- at this number the table has at most the sum

@@ -5,7 +5,7 @@ use Rattle.std.specs.List.{Contains}
 use Rattle.std.proofs.lemmas.Option.{same_Some}
 use Rattle.std.proofs.lemmas.List.Elements.{All-contains}
 use Rattle.tp_machine.specs.Steps.{step_of, can_step, after}
-use Rattle.tp_machine.specs.Using.{action_at}
+use Rattle.tp_machine.specs.ModuleUse.{action_at}
 use Rattle.tp_machine.specs.declared.parts.ActId.{ActId}
 use Rattle.tp_machine.specs.declared.parts.Action.{Action}
 use Rattle.tp_machine.specs.declared.parts.Sheet.{Sheet}
@@ -18,7 +18,7 @@ use Rattle.tp_schedule.specs.declared.parts.Origin.{Origin}
 use Rattle.tp_schedule.specs.declared.parts.Origin.TheVariants.{Feeder as FromFeeder, Front as FromFront}
 use Rattle.tp_routes.specs.Numbers.{number_of, state_at, side_bit, done_bit}
 use Rattle.tp_routes.specs.Tables.{sum_at, AreRooms, IsKnownOrigin}
-use Rattle.tp_routes.specs.Filling.{IsSum, AreSums, HasAtMost, StartsAreIn, IsStepIn}
+use Rattle.tp_routes.specs.FilledRooms.{IsSum, AreSums, HasAtMost, StartsAreIn, IsStepIn}
 use Rattle.tp_routes.specs.Laws.{StepsKeepRoom}
 use Rattle.tp_schedule.proofs.Walks.{walk_first, walk_on, least_sum-push, AreAllowed-head, AreAllowed-tail, AreAllowed-push}
 use Rattle.tp_machine.specs.Machines.{IsLocation, IsOpenLocation}

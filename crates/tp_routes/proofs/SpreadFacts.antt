@@ -9,7 +9,7 @@ use Rattle.std.proofs.lemmas.Map.Keys.{apart_from_distinct, IsDistinct-from_apar
 use Rattle.std.proofs.Math.ListN.{get_or-append}
 use Rattle.std.proofs.lemmas.List.Sums.{sum_by-le}
 use Rattle.tp_machine.specs.Steps.{step_of}
-use Rattle.tp_machine.specs.Using.{action_at, is_allowed}
+use Rattle.tp_machine.specs.ModuleUse.{action_at, is_allowed}
 use Rattle.tp_machine.specs.declared.parts.Action.{Action}
 use Rattle.tp_machine.specs.declared.parts.Outs.{Outs}
 use Rattle.tp_machine.specs.declared.parts.State.{State}
@@ -19,7 +19,7 @@ use Rattle.tp_schedule.specs.Routes.{is_act_allowed}
 use Rattle.tp_schedule.specs.declared.parts.Ask.{Ask}
 use Rattle.tp_routes.specs.Numbers.{state_at}
 use Rattle.tp_routes.specs.Tables.{sum_at}
-use Rattle.tp_routes.specs.Filling.{is_lower, lowered, Waits, IsQueue, HasAtMost, IsStepIn, IsSpreadTo, IsFilling, Lowers, filled, one_if_some}
+use Rattle.tp_routes.specs.FilledRooms.{is_lower, lowered, Waits, IsQueue, HasAtMost, IsStepIn, IsSpreadTo, IsFilling, Lowers, filled, one_if_some}
 use Rattle.tp_routes.proofs.LowerFacts.{lowered-from, Lowers-lowered, length-lowered}
 
 -- steps that are in the table stay in it

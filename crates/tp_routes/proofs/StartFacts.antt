@@ -13,7 +13,7 @@ use Rattle.tp_schedule.specs.declared.parts.Origin.{Origin}
 use Rattle.tp_schedule.specs.declared.parts.Origin.TheVariants.{Feeder as FromFeeder, Front as FromFront}
 use Rattle.tp_routes.specs.Numbers.{state_at}
 use Rattle.tp_routes.specs.Tables.{sum_at}
-use Rattle.tp_routes.specs.Filling.{IsSum, HasAtMost, Waits, IsQueue, IsFilling, IsSpreadTo, IsStepIn, StartsAreIn, StartsUpTo, Lowers}
+use Rattle.tp_routes.specs.FilledRooms.{IsSum, HasAtMost, Waits, IsQueue, IsFilling, IsSpreadTo, IsStepIn, StartsAreIn, StartsUpTo, Lowers}
 use Rattle.tp_routes.proofs.RoomFacts.{IsAtRest}
 
 none_allowed : (machine : Machine) (ask : Ask) → AreAllowed machine ask.outs []

@@ -1,5 +1,5 @@
 pub mod Numbers
 pub mod Tables
-pub mod Filling
+pub mod FilledRooms
 pub mod Laws
 pub mod Index

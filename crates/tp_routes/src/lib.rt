@@ -1,14 +1,14 @@
 //! How little time a sheet needs to reach a state.
 #![tactic(auto)]
 
-mod filling;
 mod index;
 mod laws;
-mod numbering;
-mod queueing;
+mod relaxation;
 mod rooms;
-mod starting;
+mod start_states;
+mod state_number;
+mod state_queue;
 
 pub use laws::room_law;
-pub use numbering::state_at;
 pub use rooms::Rooms;
+pub use state_number::state_at;

@@ -5,10 +5,10 @@ ghost use Rattle.tp_routes.specs.declared.index.ActEnd.TheVariants.{From};
 ghost use Rattle.tp_routes.specs.Numbers.{number_of};
 ghost use Rattle.tp_routes.specs.Tables.{sum_at, AreRooms, HasSameNumbers, HaveSameRooms, IsKnownOrigin, IsMadeFor, KeepsRooms};
 
-use crate::filling::settle;
 use crate::index::{ActEnd, ActionIndex};
-use crate::numbering::number_of;
-use crate::starting::start;
+use crate::relaxation::settle;
+use crate::start_states::start;
+use crate::state_number::number_of;
 use std::alloc::Global;
 use std::marker::Model;
 use tp_base::{Memory, Tick};

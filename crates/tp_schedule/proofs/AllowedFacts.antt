@@ -7,7 +7,7 @@ use Rattle.tp_machine.specs.declared.parts.HoldRule.{HoldRule}
 use Rattle.tp_machine.specs.declared.parts.Outs.{Outs}
 use Rattle.tp_machine.specs.declared.parts.Resource.{Resource}
 use Rattle.tp_machine.specs.declared.machine.Machine.{Machine}
-use Rattle.tp_machine.specs.Using.{uses_module, holds_module, is_of_module, is_out, is_out_of, is_held_out, is_allowed, IsAllowed}
+use Rattle.tp_machine.specs.ModuleUse.{uses_module, holds_module, is_of_module, is_out, is_out_of, is_held_out, is_allowed, IsAllowed}
 use Rattle.tp_schedule.specs.Laws.{AllowedIsTested}
 use Rattle.tp_schedule.specs.Routes.{is_act_allowed}
 

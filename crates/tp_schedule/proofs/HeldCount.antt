@@ -5,10 +5,10 @@ use Rattle.std.proofs.lemmas.Bool.{eqb-true}
 use Rattle.std.proofs.lemmas.List.{length-append, length-map}
 use Rattle.std.proofs.lemmas.List.Elements.{All-head, All-tail, filter-append}
 use Rattle.tp_machine.specs.Machines.{IsMachine}
-use Rattle.tp_machine.specs.Using.{action_at, covers}
-use Rattle.tp_schedule.proofs.Covering.{covered}
+use Rattle.tp_machine.specs.ModuleUse.{action_at, covers}
+use Rattle.tp_schedule.proofs.CoveredTicks.{covered}
 use Rattle.tp_schedule.proofs.Pairs.{AllPairs-head, AllPairs-tail, AllPairs-nil}
-use Rattle.tp_schedule.specs.Holding.{Run, runs, runs_of, runs_from, holds_of_act, holds_at, is_held_by, held, hold_of}
+use Rattle.tp_schedule.specs.Holders.{Run, runs, runs_of, runs_from, holds_of_act, holds_at, is_held_by, held, hold_of}
 use Rattle.tp_schedule.specs.Spots.{Spot, Ticks, Slot, slots_by, slots_from, slots_of, slots}
 use Rattle.tp_machine.specs.declared.parts.ActId.{ActId}
 use Rattle.tp_machine.specs.declared.parts.Action.{Action}

@@ -3,14 +3,14 @@
 use Rattle.std.proofs.Common.{◌≡◌, ◌≢◌, inl, inr, ℕ, suc, ◌+◌, Bool, true, false, cond, ◌&&◌, ◌==◌, List, [], ◌∷◌, length, refl, ap, sym, arith, Contains, All, ◌∙◌, subst}
 use Rattle.std.proofs.lemmas.List.Elements.{All-contains, Contains-append_cases, Contains-append_left, Contains-append_right}
 use Rattle.tp_machine.specs.Modes.{mode_of, gap_at}
-use Rattle.tp_machine.specs.Using.{action_at, covers}
+use Rattle.tp_machine.specs.ModuleUse.{action_at, covers}
 use Rattle.tp_machine.specs.declared.parts.ActId.{ActId}
 use Rattle.tp_machine.specs.declared.parts.HoldRule.{HoldRule}
 use Rattle.tp_machine.specs.declared.machine.Machine.{Machine}
-use Rattle.tp_schedule.proofs.Covering.{covered, Spread}
+use Rattle.tp_schedule.proofs.CoveredTicks.{covered, Spread}
 use Rattle.tp_schedule.proofs.HeldCount.{Agrees, IsTimedBy}
 use Rattle.tp_schedule.proofs.Membership.{Contains-cons_cases, Contains-here, Contains-later}
-use Rattle.tp_schedule.specs.Holding.{Run, runs_from, holds_of_act, IsHeldIn}
+use Rattle.tp_schedule.specs.Holders.{Run, runs_from, holds_of_act, IsHeldIn}
 use Rattle.tp_schedule.specs.Legality.{IsSpreadAt}
 use Rattle.tp_schedule.specs.Spots.{Spot, Ticks, Slot, slots_by, slots_from, slots_of, slots}
 use Rattle.tp_schedule.specs.Spots.Spot.{kept}

@@ -2,10 +2,10 @@
 use Rattle.std.proofs.Common.{◌≡◌, ℕ, filter, length, sym, arith, AllPairs, subst}
 use Rattle.tp_machine.specs.Modes.{gap_at}
 use Rattle.tp_schedule.specs.Spots.{IsApart, slots, ticks_of}
-use Rattle.tp_schedule.specs.Holding.{held}
+use Rattle.tp_schedule.specs.Holders.{held}
 use Rattle.tp_schedule.specs.Laws.{OrderIsOnly, OneHolderIsApart, RowIsApart}
 use Rattle.tp_machine.proofs.MachineFacts.{is_machine}
-use Rattle.tp_schedule.proofs.Covering.{covered, AllPairs-from_covered, covered-from_AllPairs, spread_from_AllPairs}
+use Rattle.tp_schedule.proofs.CoveredTicks.{covered, AllPairs-from_covered, covered-from_AllPairs, spread_from_AllPairs}
 use Rattle.tp_schedule.proofs.HeldCount.{length-held}
 use Rattle.tp_schedule.proofs.HeldModes.{slots_spread, modes_spread}
 use Rattle.tp_schedule.proofs.LegalOrders.{IsTimedBy-plans, LastsBy-plans, sound_plans, apart_order, legal_apart}

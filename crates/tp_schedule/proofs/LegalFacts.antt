@@ -8,7 +8,7 @@ use Rattle.tp_schedule.specs.declared.parts.Plan.{Plan}
 use Rattle.tp_schedule.specs.declared.parts.SheetId.{SheetId}
 use Rattle.tp_schedule.proofs.HeldModes.{spread-fewer, held_in_more}
 use Rattle.tp_schedule.proofs.Membership.{Contains-filter_from}
-use Rattle.tp_schedule.specs.Holding.{runs, runs_of, held, hold_of, holds_at}
+use Rattle.tp_schedule.specs.Holders.{runs, runs_of, held, hold_of, holds_at}
 use Rattle.tp_schedule.specs.Legality.{IsLegal, EndsBefore}
 use Rattle.tp_schedule.specs.Plans.{IsTimedPlan, without, is_before, is_same_copy}
 

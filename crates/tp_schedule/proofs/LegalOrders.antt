@@ -7,12 +7,12 @@ use Rattle.std.proofs.lemmas.List.Sorted.{IsPermutation-sym, IsPermutation-trans
 use Rattle.std.proofs.lemmas.List.Sums.{length-filter}
 use Rattle.tp_machine.specs.Machines.{IsMachine}
 use Rattle.tp_machine.specs.Modes.{gap_at}
-use Rattle.tp_machine.specs.Using.{action_at}
-use Rattle.tp_schedule.proofs.Covering.{covered, Spread, AllPairs-from_covered, covered-from_AllPairs, spread_from_AllPairs}
+use Rattle.tp_machine.specs.ModuleUse.{action_at}
+use Rattle.tp_schedule.proofs.CoveredTicks.{covered, Spread, AllPairs-from_covered, covered-from_AllPairs, spread_from_AllPairs}
 use Rattle.tp_schedule.proofs.HeldCount.{IsTimedBy, length-held}
 use Rattle.tp_schedule.proofs.HeldModes.{slots_spread, modes_spread}
 use Rattle.tp_schedule.proofs.SlotOrder.{AllPairs-by_begin, IsPermutation-by_begin, apart_unique}
-use Rattle.tp_schedule.specs.Holding.{holds_of_act, held}
+use Rattle.tp_schedule.specs.Holders.{holds_of_act, held}
 use Rattle.tp_schedule.specs.Legality.{IsLegal, IsSpreadAt}
 use Rattle.tp_schedule.specs.Plans.{IsTimedPlan, LastsWithin}
 use Rattle.tp_schedule.specs.Spots.{Spot, Ticks, Slot, IsApart, AreApart, slots_by, slots_from, slots_of, slots, ticks_of, slot_order, IsSoundSlot}

@@ -5,7 +5,7 @@ pub mod CopyFacts
 pub mod PlanOrder
 pub mod TickLists
 pub mod SlotOrder
-pub mod Covering
+pub mod CoveredTicks
 pub mod HeldCount
 pub mod HeldModes
 pub mod SpreadFacts

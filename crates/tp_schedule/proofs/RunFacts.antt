@@ -3,9 +3,9 @@ use Rattle.std.proofs.Common.{◌≡◌, ℕ, ◌+◌, ◌≤◌, Bool, true, fa
 use Rattle.std.specs.List.{list_any}
 use Rattle.tp_machine.specs.declared.parts.ActId.{ActId}
 use Rattle.tp_machine.specs.declared.machine.Machine.{Machine}
-use Rattle.tp_machine.specs.Using.{action_at}
+use Rattle.tp_machine.specs.ModuleUse.{action_at}
 use Rattle.tp_schedule.specs.declared.parts.SheetId.{SheetId}
-use Rattle.tp_schedule.specs.Holding.{Run, runs_from, holds_at, holds_of_act, is_held_by}
+use Rattle.tp_schedule.specs.Holders.{Run, runs_from, holds_at, holds_of_act, is_held_by}
 
 -- whether the first action holds the resource
 abbrev pub is_first_holding : Machine → ℕ → ℕ → List ActId → List ℕ → ActId → Bool

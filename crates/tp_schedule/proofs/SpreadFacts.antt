@@ -6,15 +6,15 @@ use Rattle.std.proofs.lemmas.Bool.{and_parts}
 use Rattle.std.proofs.lemmas.Bool.Decides.{nat_tests}
 use Rattle.std.proofs.lemmas.Int.{ints}
 use Rattle.tp_machine.specs.Modes.{mode_of, gap_at}
-use Rattle.tp_machine.specs.Using.{action_at, begin_of, end_of, covers}
+use Rattle.tp_machine.specs.ModuleUse.{action_at, begin_of, end_of, covers}
 use Rattle.tp_machine.specs.declared.parts.HoldRule.{HoldRule}
 use Rattle.tp_machine.specs.declared.parts.ResId.{ResId}
 use Rattle.tp_machine.specs.declared.machine.Machine.{Machine}
-use Rattle.tp_schedule.specs.Holding.{runs_of, holds_of_act, is_held_by, IsHeldIn}
+use Rattle.tp_schedule.specs.Holders.{runs_of, holds_of_act, is_held_by, IsHeldIn}
 use Rattle.tp_schedule.specs.Legality.{IsSpreadAt}
-use Rattle.tp_schedule.specs.Spreading.{or_later, first_of, is_held_within, is_passed, mode_within, mode_of_run, mode_of_plan}
+use Rattle.tp_schedule.specs.OutageSpread.{or_later, first_of, is_held_within, is_passed, mode_within, mode_of_run, mode_of_plan}
 use Rattle.tp_schedule.specs.declared.parts.Plan.{Plan}
-use Rattle.tp_schedule.specs.declared.spreading.Stretch.{Stretch}
+use Rattle.tp_schedule.specs.declared.outage_spread.Stretch.{Stretch}
 use Rattle.tp_schedule.proofs.Membership.{Contains-cons_cases, Contains-here, Contains-later}
 
 -- what is found nowhere is found at no element

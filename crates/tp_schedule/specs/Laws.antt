@@ -2,7 +2,7 @@
 use Rattle.std.specs.Prelude.{◌≡◌, ◌↔◌, ℕ, ◌≤◌, List, length, Some, All, AllPairs, IsTrue, IsPermutation}
 use Rattle.tp_machine.specs.Modes.{gap_at}
 use Rattle.tp_machine.specs.Steps.{Step, step_of}
-use Rattle.tp_machine.specs.Using.{action_at, IsAllowed}
+use Rattle.tp_machine.specs.ModuleUse.{action_at, IsAllowed}
 use Rattle.tp_machine.specs.declared.parts.ActId.{ActId}
 use Rattle.tp_machine.specs.declared.parts.Action.{Action}
 use Rattle.tp_machine.specs.declared.parts.Outs.{Outs}
@@ -11,7 +11,7 @@ use Rattle.tp_machine.specs.declared.parts.State.{State}
 use Rattle.tp_machine.specs.declared.machine.Machine.{Machine}
 use Rattle.tp_schedule.specs.Routes.{IsRoom, is_act_allowed}
 use Rattle.tp_schedule.specs.Plans.{IsTimedPlan, IsEarlier, without, end_of_plan}
-use Rattle.tp_schedule.specs.Holding.{held}
+use Rattle.tp_schedule.specs.Holders.{held}
 use Rattle.tp_schedule.specs.Legality.{IsLegal, IsSpreadAt}
 use Rattle.tp_schedule.specs.Spots.{Ticks, Slot, IsApart, AreApart, IsRow, IsSoundSlot, slots, slot_order, ticks_of}
 use Rattle.tp_schedule.specs.Spots.Spot.{own}

@@ -3,7 +3,7 @@ use Rattle.std.specs.Prelude.{◌≢◌, ◌⊎◌, ℕ, ◌+◌, ◌<◌, ◌�
 use Rattle.tp_machine.specs.Modes.{gap_at}
 use Rattle.tp_machine.specs.declared.machine.Machine.{Machine}
 use Rattle.tp_schedule.specs.Plans.{IsTimedPlan, IsEarlier, is_delivered_to, end_of_plan}
-use Rattle.tp_schedule.specs.Holding.{held, IsHeldIn}
+use Rattle.tp_schedule.specs.Holders.{held, IsHeldIn}
 use Rattle.tp_schedule.specs.declared.parts.Plan.{Plan}
 
 -- where both plans are whole and go to one tray, the earlier one ends before the later one

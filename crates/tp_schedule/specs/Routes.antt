@@ -1,7 +1,7 @@
 -- Routes: lists of actions that lead by steps from a start state to a goal state; and the room that a state needs.
 use Rattle.std.specs.Prelude.{◌≡◌, ◌≢◌, ℕ, ◌+◌, ◌≤◌, Bool, true, false, List, [], ◌∷◌, Option, Some, None, option_and_then, option_map, unwrap_or, Any, Contains, IsTrue, IsFalse}
 use Rattle.tp_machine.specs.Steps.{step_of}
-use Rattle.tp_machine.specs.Using.{action_at, is_allowed}
+use Rattle.tp_machine.specs.ModuleUse.{action_at, is_allowed}
 use Rattle.tp_machine.specs.declared.parts.ActId.{ActId}
 use Rattle.tp_machine.specs.declared.parts.Action.{Action}
 use Rattle.tp_machine.specs.declared.parts.Face.TheVariants.{Front as FrontUp}

@@ -2,11 +2,11 @@
 -- holds on a resource by their times.
 use Rattle.std.specs.Prelude.{ℕ, suc, ◌==◌, List, [], ◌∷◌, ◌++◌, flat_map, map, ℤ, pos, ◌+ℤ◌, int_lt, ◌≤ℤ◌, ◌<ℤ◌, ◌⊎◌, Option, Some, None, if◌then◌else◌}
 use Rattle.tp_machine.specs.Modes.{gap_between}
-use Rattle.tp_machine.specs.Using.{action_at, begin_of, end_of}
+use Rattle.tp_machine.specs.ModuleUse.{action_at, begin_of, end_of}
 use Rattle.tp_machine.specs.declared.parts.ActId.{ActId}
 use Rattle.tp_machine.specs.declared.parts.HoldRule.{HoldRule}
 use Rattle.tp_machine.specs.declared.machine.Machine.{Machine}
-use Rattle.tp_schedule.specs.Holding.{holds_of_act}
+use Rattle.tp_schedule.specs.Holders.{holds_of_act}
 use Rattle.tp_schedule.specs.Plans.{plan_of, point}
 use Rattle.tp_schedule.specs.declared.parts.Hold.{Hold}
 use Rattle.tp_schedule.specs.declared.parts.Plan.{Plan}

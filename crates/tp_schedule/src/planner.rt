@@ -3,10 +3,10 @@ ghost use Rattle.std.specs.Prelude.{◌≡◌, ◌≤◌, ℕ, Bool, false, List
 ghost use Rattle.tp_machine.specs.declared.machine.Machine.{Machine};
 ghost use Rattle.tp_schedule.specs.declared.parts.Ask.{Ask};
 ghost use Rattle.tp_schedule.specs.declared.parts.Plan.{Plan};
-ghost use Rattle.tp_schedule.specs.Planning.{CanAsk, CanSettle, IsAnswer, IsSettled, PlannerRules, StopsOnlyWhere};
+ghost use Rattle.tp_schedule.specs.PlannerAnswers.{CanAsk, CanSettle, IsAnswer, IsSettled, PlannerRules, StopsOnlyWhere};
 ghost use Rattle.tp_schedule.specs.Plans.{without};
-ghost use Rattle.tp_schedule.specs.Planning.Deed.{replied, settled};
-ghost use Rattle.tp_schedule.specs.Planning.Due.{asking, settling};
+ghost use Rattle.tp_schedule.specs.PlannerAnswers.Deed.{replied, settled};
+ghost use Rattle.tp_schedule.specs.PlannerAnswers.Due.{asking, settling};
 
 use crate::parts::{Ask, Halt, Reply};
 use crate::schedule::Schedule;

@@ -2,11 +2,11 @@
 ghost use Rattle.std.specs.Prelude.{◌≡◌, ◌+◌, ◌^◌, ◌<◌, ◌≤◌, ◌↔◌, [], length, filter, set, slice_get, Some, None, IsTrue, IsSome, IsSomeAnd, OnOk, IfOk, position};
 
 use crate::copies::{copy_place, place_of, plan_in, write_plan};
-use crate::holding::{count_holders, count_live, is_plan_live};
-use crate::ordering::holds_by_time;
+use crate::hold_order::holds_by_time;
+use crate::holders::{count_holders, count_live, is_plan_live};
+use crate::outage_spread::is_spread;
 use crate::parts::{Hold, Kind, Plan, SheetId};
 use crate::series::Points;
-use crate::spreading::is_spread;
 use std::alloc::Global;
 use std::marker::Model;
 use tp_base::{Memory, Tick};
@@ -42,9 +42,9 @@ impl Model for Schedule {
 impl Schedule {
     ghost use Rattle.tp_schedule.specs.Timetables.{IsOrdered};
     ghost use Rattle.tp_schedule.specs.Plans.{IsFormed, is_same_copy, plan_of, put_plan, change_plan, cut_to, with_points, with_released, without};
-    ghost use Rattle.tp_schedule.specs.Holding.{held};
+    ghost use Rattle.tp_schedule.specs.Holders.{held};
     ghost use Rattle.tp_schedule.specs.Legality.{IsLegal, IsSpreadAt};
-    ghost use Rattle.tp_schedule.specs.Living.{is_live, live_count};
+    ghost use Rattle.tp_schedule.specs.LivePlans.{is_live, live_count};
     ghost use Rattle.tp_schedule.specs.Spots.{order_of};
 
     pub fn new(alloc: Global) -> Schedule

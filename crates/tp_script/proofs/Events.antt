@@ -22,7 +22,7 @@ use Rattle.tp_script.specs.Form.{GroupForm}
 use Rattle.tp_script.specs.Verbs.{verb_text, verb_of, verbs as verbs-all}
 use Rattle.tp_script.specs.Script.{IsGroup, IsEvent, Reads, Writes, is_passed}
 use Rattle.tp_words.specs.Fields.{name_of}
-use Rattle.tp_script.specs.Reading.{Gives, group_of, groups_of, one_name, number_of, after_clock, after_refill, job_of, after_job, event_after, event_of}
+use Rattle.tp_script.specs.EventReaders.{Gives, group_of, groups_of, one_name, number_of, after_clock, after_refill, job_of, after_job, event_after, event_of}
 use Rattle.tp_script.proofs.Groups.{group_takes, group_only}
 
 -- what `find` gives passes

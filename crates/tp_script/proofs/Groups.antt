@@ -16,7 +16,7 @@ use Rattle.tp_machine.specs.declared.parts.Face.{Face}
 use Rattle.tp_machine.specs.declared.parts.Face.TheVariants.{Front, Back}
 use Rattle.tp_script.specs.Form.{GroupForm}
 use Rattle.tp_script.specs.Script.{IsGroup, Writes, spec_text, want_byte, face_byte, group_text}
-use Rattle.tp_script.specs.Reading.{want_of, face_of, group_with, count_of, group_from, group_of}
+use Rattle.tp_script.specs.EventReaders.{want_of, face_of, group_with, count_of, group_from, group_of}
 
 -- an if that chose
 chosen : {A : Type 0} (b : Bool) (x y z : A) → cond b x y ≡ z → ((b ≡ true) × (x ≡ z)) ⊎ ((b ≡ false) × (y ≡ z))

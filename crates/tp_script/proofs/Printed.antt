@@ -13,7 +13,7 @@ use Rattle.tp_words.specs.Parts.{words_in, is_word, lacks}
 use Rattle.tp_words.specs.Texts.{spaced}
 use Rattle.tp_words.proofs.PartFacts.{IsWord, AllWords, words-join, lacks_from}
 use Rattle.tp_words.proofs.NumberFacts.{own, digits_take, digits_again}
-use Rattle.tp_words.proofs.Spelling.{weaker}
+use Rattle.tp_words.proofs.SpelledWords.{weaker}
 use Rattle.tp_words.proofs.Texts.{spaced-join}
 use Rattle.tp_machine.specs.declared.parts.Want.{Want}
 use Rattle.tp_machine.specs.declared.parts.Want.TheVariants.{Blank, Mono, Colour}

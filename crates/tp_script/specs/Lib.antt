@@ -1,6 +1,6 @@
 pub mod Form
 pub mod Verbs
 pub mod Script
-pub mod Reading
+pub mod EventReaders
 pub mod Printed
 pub mod Lines

@@ -4,7 +4,7 @@ use Rattle.std.specs.List.{filter_map}
 use Rattle.tp_words.specs.Texts.{lines_of}
 use Rattle.tp_script.specs.declared.event.Event.{Event}
 use Rattle.tp_script.specs.declared.event.Event.TheVariants.{Bad}
-use Rattle.tp_script.specs.Reading.{event_of}
+use Rattle.tp_script.specs.EventReaders.{event_of}
 use Rattle.tp_script.specs.Script.{is_passed, words_of_line}
 
 -- the event of a line: none for a blank line or a comment, and `Bad` off the grammar

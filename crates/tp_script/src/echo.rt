@@ -3,9 +3,9 @@ ghost use Rattle.std.specs.Prelude.{◌+◌, ◌<◌, ◌^◌, length};
 ghost use Rattle.tp_script.specs.Printed.{Echoes};
 
 use crate::event::Event;
+use crate::event_printer::print_event;
+use crate::event_reader::read_line;
 use crate::fault::LineFault;
-use crate::printing::print_event;
-use crate::reading::read_line;
 use std::alloc::Global;
 
 /// The event that is printed so, `Bad` among them, as the line of an event in a log echoes it.

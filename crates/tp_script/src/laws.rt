@@ -3,7 +3,7 @@ ghost use Rattle.std.specs.Prelude.{◌≡◌, ◌↔◌, ℕ, List, [], ◌∷�
 ghost use Rattle.tp_script.specs.declared.event.Event.{Event};
 ghost use Rattle.tp_script.specs.Script.{IsEvent, event_text, words_of_line};
 ghost use Rattle.tp_script.specs.Printed.{IsWhole, IsEchoed};
-ghost use Rattle.tp_script.specs.Reading.{event_of};
+ghost use Rattle.tp_script.specs.EventReaders.{event_of};
 
 /// A printed event, with its LF, is read again. `Bad` has no line of its own.
 pub fn printed_is_read()

@@ -1,6 +1,6 @@
 //! The letters of sides.
 ghost use Rattle.std.specs.Prelude.{◌≡◌};
-ghost use Rattle.tp_script.specs.Reading.{face_of};
+ghost use Rattle.tp_script.specs.EventReaders.{face_of};
 ghost use Rattle.tp_script.specs.Script.{face_byte};
 
 use tp_machine::Face;

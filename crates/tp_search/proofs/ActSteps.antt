@@ -14,12 +14,12 @@ use Rattle.tp_constraints.specs.Suffixes.{SuffixTimes, with_action}
 use Rattle.tp_placing.specs.Boards.{BoardValue, suffix_of}
 use Rattle.tp_placing.specs.Calls.{HasNoTimes}
 use Rattle.tp_search.specs.Boards.{IsBack, IsLaid}
-use Rattle.tp_search.specs.Opening.{IsAtProgress, IsLooked, IsSameOpening, parent_of}
-use Rattle.tp_search.specs.Opening.Progress.{through, up_to}
+use Rattle.tp_search.specs.OpenedLists.{IsAtProgress, IsLooked, IsSameOpening, parent_of}
+use Rattle.tp_search.specs.OpenedLists.Progress.{through, up_to}
 use Rattle.tp_search.specs.States.{HasNoneBefore, IsBefore}
 use Rattle.tp_search.specs.Stored.{choices_by}
 use Rattle.tp_search.specs.Stores.{StoreValue}
-use Rattle.tp_ways.specs.Ways.{IsPlaced}
+use Rattle.tp_constraints.specs.Ways.{IsPlaced}
 use Rattle.tp_search.specs.declared.opening.Opening.{Opening}
 use Rattle.tp_search.proofs.BoardSteps.{IsSince, since-back, the-way}
 use Rattle.tp_search.proofs.ChildFacts.{child-form}
@@ -27,8 +27,8 @@ use Rattle.tp_search.proofs.OpeningFacts.{opening-on}
 use Rattle.tp_search.proofs.OpeningSame.{same-itself}
 use Rattle.tp_search.proofs.PlaceFacts.{opening-shut}
 use Rattle.tp_search.proofs.StopSteps.{none-ahead}
-use Rattle.tp_ways.proofs.WayChildren.{child-closed, child-full, child-late}
-use Rattle.tp_ways.proofs.WaySteps.{action-way}
+use Rattle.tp_constraints.proofs.WayChildren.{child-closed, child-full, child-late}
+use Rattle.tp_constraints.proofs.WaySteps.{action-way}
 
 module _ {N : Type 0} (reading : Reading N) (b : BoardValue N) (machine : Machine) (ask : Ask) (first : State) (act : ActId) (o : Opening) (s : StoreValue)
     (l : IsLaid reading b machine ask o.goal first (choices_by machine (choices_before s.entries o.parent))) where

@@ -3,25 +3,25 @@ use Rattle.std.proofs.Common.{◌≡◌, ℕ, suc, ◌+◌, ◌<◌, ◌≤◌, 
 use Rattle.std.specs.Prelude.{slice_get}
 use Rattle.std.proofs.lemmas.List.{take-append-drop, take_more}
 use Rattle.std.proofs.lemmas.List.Sums.{fold-append}
-use Rattle.tp_machine.specs.Using.{action_at}
+use Rattle.tp_machine.specs.ModuleUse.{action_at}
 use Rattle.tp_machine.specs.declared.parts.ActId.{ActId}
 use Rattle.tp_machine.specs.declared.parts.Action.{Action}
 use Rattle.tp_machine.specs.declared.parts.HoldRule.{HoldRule}
 use Rattle.tp_machine.specs.declared.machine.Machine.{Machine}
 use Rattle.tp_schedule.specs.Choices.{AreWithin, Choice, HavePlaces}
-use Rattle.tp_schedule.specs.Holding.{holds_of_act}
+use Rattle.tp_schedule.specs.Holders.{holds_of_act}
 use Rattle.tp_schedule.specs.Plans.{LastsWithin}
 use Rattle.tp_schedule.specs.Spots.{Slot, slot_order}
 use Rattle.tp_schedule.specs.declared.parts.Ask.{Ask}
 use Rattle.tp_schedule.specs.declared.parts.Plan.{Plan}
 use Rattle.tp_constraints.specs.Suffixes.{AreWithinSoFar, HavePlacesSoFar, Suffix, order_in, with_action, with_place}
-use Rattle.tp_constraints.proofs.Placing.{place_law}
+use Rattle.tp_constraints.proofs.PlaceGaps.{place_law}
 use Rattle.tp_constraints.proofs.Steps.{action_law}
 use Rattle.tp_placing.specs.Boards.{after_change}
 use Rattle.tp_placing.specs.declared.parts.Change.{Change}
 use Rattle.tp_placing.specs.declared.parts.Change.TheVariants.{Action as Act, Goal as Open, Place, Stop}
-use Rattle.tp_ways.proofs.WayMeets.{rooms-count}
-use Rattle.tp_ways.proofs.WaySteps.{order-next}
+use Rattle.tp_constraints.proofs.WayMeets.{rooms-count}
+use Rattle.tp_constraints.proofs.WaySteps.{order-next}
 use Rattle.tp_search.specs.Again.{CanCarry, CanCarryIf, CanLayAgain, after_again, again_by, suffix_by}
 
 -- an action that lasts is the machine's

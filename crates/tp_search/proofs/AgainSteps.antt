@@ -3,24 +3,24 @@ use Rattle.std.proofs.Common.{◌≡◌, ℕ, ◌+◌, Bool, true, false, List, 
 use Rattle.std.specs.Prelude.{slice_get}
 use Rattle.std.proofs.lemmas.List.{length-append}
 use Rattle.tp_base.specs.Readings.{Reading}
-use Rattle.tp_machine.specs.Using.{action_at}
+use Rattle.tp_machine.specs.ModuleUse.{action_at}
 use Rattle.tp_machine.specs.declared.parts.State.{State}
 use Rattle.tp_machine.specs.declared.machine.Machine.{Machine}
 use Rattle.tp_schedule.specs.Choices.{CanStop, Choice, IsCompleteFrom}
-use Rattle.tp_schedule.specs.Holding.{holds_of_act}
+use Rattle.tp_schedule.specs.Holders.{holds_of_act}
 use Rattle.tp_schedule.specs.declared.parts.Ask.{Ask}
 use Rattle.tp_schedule.specs.declared.parts.Origin.TheVariants.{Feeder as FromFeeder, Front as FromFront}
 use Rattle.tp_schedule.specs.declared.parts.Plan.{Plan}
 use Rattle.tp_constraints.specs.Suffixes.{Suffix, list_of, with_place, with_stop}
 use Rattle.tp_placing.specs.Boards.{BoardValue, past_of, suffix_of}
 use Rattle.tp_placing.specs.Calls.{CanPlace, HasNoTimes, IsSameLoad}
-use Rattle.tp_placing.specs.Standing.{Stands}
+use Rattle.tp_placing.specs.LoadedBoard.{Stands}
 use Rattle.tp_placing.specs.declared.parts.Change.{Change}
 use Rattle.tp_placing.specs.declared.parts.Change.TheVariants.{Place}
 use Rattle.tp_placing.proofs.StandFacts.{and-some, some-and}
 use Rattle.tp_search.specs.Again.{CanCarry, CanCarryIf, CanLayAgain, CanMake, IsMade, after_again, has_goal, reached_by, reached_in}
-use Rattle.tp_search.specs.declared.again.Reached.{Reached}
-use Rattle.tp_search.specs.declared.again.Reached.TheVariants.{Holds}
+use Rattle.tp_search.specs.declared.replay.Reached.{Reached}
+use Rattle.tp_search.specs.declared.replay.Reached.TheVariants.{Holds}
 use Rattle.tp_search.proofs.AgainFacts.{going_of, hold-next}
 use Rattle.tp_search.proofs.FollowGoal.{refused-late}
 

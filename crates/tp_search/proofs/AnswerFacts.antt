@@ -5,9 +5,9 @@ use Rattle.tp_machine.specs.Machines.{IsMachine}
 use Rattle.tp_machine.specs.declared.machine.Machine.{Machine}
 use Rattle.tp_schedule.specs.Answers.{IsAlternative, NoneBefore}
 use Rattle.tp_schedule.specs.Choices.{ChoiceList, IsBound, IsComplete}
-use Rattle.tp_schedule.specs.Living.{is_live}
-use Rattle.tp_schedule.specs.Planning.{CanAsk, IsKnownGoal, IsOpenGoal}
-use Rattle.tp_schedule.specs.Spending.{FewListsOpen, IsSpent}
+use Rattle.tp_schedule.specs.LivePlans.{is_live}
+use Rattle.tp_schedule.specs.PlannerAnswers.{CanAsk, IsKnownGoal, IsOpenGoal}
+use Rattle.tp_schedule.specs.SpentBudget.{FewListsOpen, IsSpent}
 use Rattle.tp_schedule.specs.Spots.Spot.{own}
 use Rattle.tp_schedule.specs.declared.parts.Ask.{Ask}
 use Rattle.tp_schedule.specs.declared.parts.Goal.{Goal}
@@ -20,14 +20,14 @@ use Rattle.tp_choices.proofs.LiveSpent.{live_spends}
 use Rattle.tp_constraints.specs.Suffixes.{Suffix, list_of}
 use Rattle.tp_placing.specs.Boards.{BoardValue, suffix_of}
 use Rattle.tp_placing.specs.Ticks.{HasLeastTick, IsLeastTick, TimesOf}
-use Rattle.tp_placing.specs.Writing.{CanCommit}
+use Rattle.tp_placing.specs.Commits.{CanCommit}
 use Rattle.tp_placing.proofs.StandFacts.{and-some, some-and}
 use Rattle.tp_placing.proofs.WriteLive.{gone, may-ask, may-forget, put-of, stays}
 use Rattle.tp_placing.proofs.WriteWhole.{less-live}
-use Rattle.tp_search.specs.Following.{IsWayTo}
+use Rattle.tp_search.specs.StoredLists.{IsWayTo}
 use Rattle.tp_search.specs.Outcomes.{HasAnswer}
-use Rattle.tp_ways.proofs.WayAnswers.{complete-some}
-use Rattle.tp_ways.proofs.WayEnds.{complete-start}
+use Rattle.tp_constraints.proofs.WayAnswers.{complete-some}
+use Rattle.tp_constraints.proofs.WayEnds.{complete-start}
 use Rattle.tp_search.proofs.WayBounds.{way-bound, way-commit}
 
 pub known-goal : (machine : Machine) (plans : List Plan) (ask : Ask) → CanAsk machine plans ask → IsKnownGoal machine ask.goal

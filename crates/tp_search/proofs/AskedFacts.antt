@@ -3,7 +3,7 @@ use Rattle.std.proofs.Common.{◌≡◌, ℕ, ◌+◌, ◌≤◌, List, subst, s
 use Rattle.tp_machine.specs.declared.machine.Machine.{Machine}
 use Rattle.tp_schedule.specs.Answers.{IsAsked, IsAskedFrom}
 use Rattle.tp_schedule.specs.Choices.{start_floor}
-use Rattle.tp_schedule.specs.Planning.{HasTimeFrom}
+use Rattle.tp_schedule.specs.PlannerAnswers.{HasTimeFrom}
 use Rattle.tp_schedule.specs.declared.parts.Ask.{Ask}
 use Rattle.tp_schedule.specs.declared.parts.Origin.{Origin}
 use Rattle.tp_schedule.specs.declared.parts.Origin.TheVariants.{Feeder as FromFeeder, Front as FromFront}
@@ -11,7 +11,7 @@ use Rattle.tp_schedule.specs.declared.parts.Plan.{Plan}
 use Rattle.tp_routes.specs.Tables.{IsKnownOrigin}
 use Rattle.tp_routes.proofs.RoomFacts.{fresh_start_known}
 use Rattle.tp_search.specs.Limits.{HasNoLimit}
-use Rattle.tp_search.specs.Searching.{AreOpenGoals, IsSearching}
+use Rattle.tp_search.specs.SearchProgress.{AreOpenGoals, IsSearching}
 use Rattle.tp_search.specs.Stores.{HasBounds, StoreValue}
 use Rattle.tp_search.specs.declared.goals.OpenGoal.{OpenGoal}
 use Rattle.tp_search.specs.declared.store.Limit.{Limit}

@@ -5,26 +5,26 @@ use Rattle.std.proofs.lemmas.List.{length-append}
 use Rattle.std.proofs.Math.Seq.{take-append_seam}
 use Rattle.std.proofs.lemmas.Option.{same_Some}
 use Rattle.tp_base.specs.Readings.{Reading}
-use Rattle.tp_machine.specs.Using.{action_at}
+use Rattle.tp_machine.specs.ModuleUse.{action_at}
 use Rattle.tp_machine.specs.declared.parts.ActId.{ActId}
 use Rattle.tp_machine.specs.declared.parts.HoldRule.{HoldRule}
 use Rattle.tp_machine.specs.declared.parts.State.{State}
 use Rattle.tp_machine.specs.declared.machine.Machine.{Machine}
 use Rattle.tp_schedule.specs.Answers.{kept_of}
 use Rattle.tp_schedule.specs.Choices.{Choice}
-use Rattle.tp_schedule.specs.Holding.{holds_of_act}
+use Rattle.tp_schedule.specs.Holders.{holds_of_act}
 use Rattle.tp_schedule.specs.declared.parts.Ask.{Ask}
 use Rattle.tp_constraints.specs.Suffixes.{Suffix, order_in, place_first, with_action, with_place}
 use Rattle.tp_placing.specs.Boards.{BoardValue, BoardContent, BoardUntouched, content_of, untouched_of, past_of, suffix_of, suffix_after}
 use Rattle.tp_placing.specs.Calls.{IsSameLoad}
 use Rattle.tp_placing.specs.Laws.{MarkKeeps, UndoKeeps}
-use Rattle.tp_placing.specs.Standing.{Stands}
-use Rattle.tp_placing.specs.Walking.{StandsBack}
+use Rattle.tp_placing.specs.LoadedBoard.{Stands}
+use Rattle.tp_placing.specs.RefusedPlace.{StandsBack}
 use Rattle.tp_placing.proofs.StandFacts.{and-some, some-and}
 use Rattle.tp_search.specs.Boards.{IsBack, IsLaid, IsReady, IsWayOf}
 use Rattle.tp_search.specs.States.{IsBefore}
-use Rattle.tp_ways.specs.Ways.{IsPlaced, IsWay}
-use Rattle.tp_ways.proofs.WaySteps.{action-way, place-way}
+use Rattle.tp_constraints.specs.Ways.{IsPlaced, IsWay}
+use Rattle.tp_constraints.proofs.WaySteps.{action-way, place-way}
 
 module _ {N : Type 0} (reading : Reading N) where
   pub load-trans : (a b c : BoardValue N) → IsSameLoad a b → IsSameLoad b c → IsSameLoad a c

@@ -2,7 +2,7 @@
 use Rattle.std.proofs.Common.{◌≡◌, ℕ, ◌+◌, ◌<◌, ◌≤◌, false, List, [], ◌∷◌, ◌++◌, length, take, refl, ap, sym, subst, arith, Some, IsSomeAnd, IsFalse, ◌↔◌}
 use Rattle.std.specs.Prelude.{slice_get}
 use Rattle.tp_base.specs.Readings.{Reading}
-use Rattle.tp_machine.specs.Using.{action_at}
+use Rattle.tp_machine.specs.ModuleUse.{action_at}
 use Rattle.tp_machine.specs.declared.parts.ActId.{ActId}
 use Rattle.tp_machine.specs.declared.parts.HoldRule.{HoldRule}
 use Rattle.tp_machine.specs.declared.parts.State.{State}
@@ -10,7 +10,7 @@ use Rattle.tp_machine.specs.declared.machine.Machine.{Machine}
 use Rattle.tp_pool.specs.declared.choice.Choice.{Choice as Stored}
 use Rattle.tp_schedule.specs.Choices.{Choice, ChoiceList, IsBound, IsChild, IsComplete, IsOpen, OpensTo, going, start_floor}
 use Rattle.tp_schedule.specs.Choices.IsChild.{one_more}
-use Rattle.tp_schedule.specs.Holding.{holds_of_act}
+use Rattle.tp_schedule.specs.Holders.{holds_of_act}
 use Rattle.tp_schedule.specs.Routes.{IsStart}
 use Rattle.tp_schedule.specs.Spots.{Ticks}
 use Rattle.tp_schedule.specs.Spots.Spot.{own}
@@ -18,22 +18,22 @@ use Rattle.tp_schedule.specs.declared.parts.Ask.{Ask}
 use Rattle.tp_schedule.specs.declared.parts.Origin.{Origin}
 use Rattle.tp_schedule.specs.declared.parts.Origin.TheVariants.{Feeder as FromFeeder, Front as FromFront}
 use Rattle.tp_schedule.specs.declared.parts.Plan.{Plan}
-use Rattle.tp_choices.proofs.Completing.{ChoicesLast-rise}
+use Rattle.tp_choices.proofs.CompletePlans.{ChoicesLast-rise}
 use Rattle.tp_constraints.specs.Suffixes.{Suffix, SuffixTimes, list_of, order_in, place_first, with_place}
 use Rattle.tp_placing.specs.Boards.{BoardValue, suffix_of}
 use Rattle.tp_placing.specs.Calls.{CanPlace, HasNoTimes}
-use Rattle.tp_placing.specs.Standing.{order_after}
+use Rattle.tp_placing.specs.LoadedBoard.{order_after}
 use Rattle.tp_placing.specs.Ticks.{HasLeastTick, IsLeastTick, TimesOf}
-use Rattle.tp_placing.specs.Walking.{EndsAfterUpTo}
+use Rattle.tp_placing.specs.RefusedPlace.{EndsAfterUpTo}
 use Rattle.tp_search.specs.Boards.{IsLaid}
 use Rattle.tp_search.specs.Stored.{child_by}
-use Rattle.tp_ways.specs.Ways.{IsPlaced}
+use Rattle.tp_constraints.specs.Ways.{IsPlaced}
 use Rattle.tp_search.proofs.BoardSteps.{TheWay, the-way}
 use Rattle.tp_search.proofs.ChildFacts.{child_by-act}
-use Rattle.tp_ways.proofs.WayChildren.{child-places, child-times, place-beyond}
-use Rattle.tp_ways.proofs.WayEnds.{complete-start, going-incomplete, start-complete}
+use Rattle.tp_constraints.proofs.WayChildren.{child-places, child-times, place-beyond}
+use Rattle.tp_constraints.proofs.WayEnds.{complete-start, going-incomplete, start-complete}
 use Rattle.tp_search.proofs.WayBounds.{way-bound}
-use Rattle.tp_ways.proofs.WaySteps.{place-way}
+use Rattle.tp_constraints.proofs.WaySteps.{place-way}
 
 -- the list of a way of these choices that is not stopped
 pub going-of : (goal : State) (choices : List Choice) (x : Suffix) → x.choices ≡ choices → IsFalse x.stopped → list_of goal x ≡ going goal choices

@@ -3,23 +3,23 @@ use Rattle.std.proofs.Common.{◌≡◌, ℕ, suc, ◌+◌, ◌-◌, ◌<◌, �
 use Rattle.std.specs.Prelude.{slice_get}
 use Rattle.std.proofs.lemmas.List.{length-append}
 use Rattle.tp_base.specs.Readings.{Reading}
-use Rattle.tp_machine.specs.Using.{action_at}
+use Rattle.tp_machine.specs.ModuleUse.{action_at}
 use Rattle.tp_machine.specs.declared.parts.ActId.{ActId}
 use Rattle.tp_machine.specs.declared.parts.HoldRule.{HoldRule}
 use Rattle.tp_machine.specs.declared.parts.State.{State}
 use Rattle.tp_machine.specs.declared.machine.Machine.{Machine}
 use Rattle.tp_schedule.specs.Answers.{kept_of}
-use Rattle.tp_schedule.specs.Holding.{holds_of_act}
+use Rattle.tp_schedule.specs.Holders.{holds_of_act}
 use Rattle.tp_schedule.specs.declared.parts.Ask.{Ask}
 use Rattle.tp_constraints.specs.Suffixes.{with_action, with_place}
 use Rattle.tp_placing.specs.Boards.{BoardValue, content_of, past_of, suffix_of}
 use Rattle.tp_placing.specs.Calls.{CanPlace, IsSameLoad}
 use Rattle.tp_placing.specs.Laws.{MarkKeeps}
-use Rattle.tp_placing.specs.Standing.{Stands, order_after}
+use Rattle.tp_placing.specs.LoadedBoard.{Stands, order_after}
 use Rattle.tp_search.specs.Boards.{HasMarks, IsBack, IsFurther, IsLaid}
-use Rattle.tp_search.specs.Diving.{CanDive, IsPlacing}
+use Rattle.tp_search.specs.Dives.{CanDive, IsPlacing}
 use Rattle.tp_search.specs.States.{IsBefore}
-use Rattle.tp_search.specs.declared.following.Laid.{Laid}
+use Rattle.tp_search.specs.declared.stored_list.Laid.{Laid}
 use Rattle.tp_search.proofs.BoardSteps.{IsMarked, laid-action, laid-back, laid-marked, laid-place, load-of, suffix-back}
 use Rattle.tp_search.proofs.ChildBoards.{can-place, place-within}
 use Rattle.tp_search.proofs.FurtherFacts.{further-back, further-marked, further-trans}

@@ -3,16 +3,16 @@ use Rattle.std.proofs.Common.{◌≡◌, ◌∙◌, ℕ, List, None, ap, filter,
 use Rattle.tp_machine.specs.declared.machine.Machine.{Machine}
 use Rattle.tp_schedule.proofs.PlanOrder.{without-none}
 use Rattle.tp_schedule.specs.Answers.{IsAskedFrom}
-use Rattle.tp_schedule.specs.Living.{is_live}
-use Rattle.tp_schedule.specs.Planning.Deed.{replied}
+use Rattle.tp_schedule.specs.LivePlans.{is_live}
+use Rattle.tp_schedule.specs.PlannerAnswers.Deed.{replied}
 use Rattle.tp_schedule.specs.Plans.{plan_of, without}
-use Rattle.tp_schedule.specs.Spending.{FewListsOpen}
+use Rattle.tp_schedule.specs.SpentBudget.{FewListsOpen}
 use Rattle.tp_schedule.specs.declared.parts.Ask.{Ask}
 use Rattle.tp_schedule.specs.declared.parts.Plan.{Plan}
 use Rattle.tp_schedule.specs.declared.parts.Reply.{Reply}
 use Rattle.tp_schedule.specs.declared.parts.Reply.TheVariants.{Never, Planned, Spent}
-use Rattle.tp_placing.specs.Following.{HoldsOthers}
-use Rattle.tp_placing.specs.Writing.{IsHeldFrom}
+use Rattle.tp_placing.specs.KeptBoard.{HoldsOthers}
+use Rattle.tp_placing.specs.Commits.{IsHeldFrom}
 use Rattle.tp_search.specs.Engines.{HasFewLists}
 
 pub few-told : (nodes : ℕ) (machine : Machine) (plans : List Plan) (ask : Ask) (reply : Reply) → (reply ≡ Never → FewListsOpen machine plans ask nodes) → HasFewLists nodes machine plans (replied ask reply)

@@ -10,9 +10,9 @@ use Rattle.tp_constraints.specs.Suffixes.{Suffix}
 use Rattle.tp_placing.specs.Boards.{BoardValue}
 use Rattle.tp_placing.specs.Calls.{HasNoTimes}
 use Rattle.tp_routes.specs.Tables.{IsKnownOrigin}
-use Rattle.tp_ways.specs.WayLaws.{IsLate}
+use Rattle.tp_constraints.specs.WayLaws.{IsLate}
 use Rattle.tp_search.proofs.StateFacts.{none_outside}
-use Rattle.tp_ways.proofs.WayChildren.{goal-closed}
+use Rattle.tp_constraints.proofs.WayChildren.{goal-closed}
 
 -- a goal at no location has no room, so its list is not open
 pub goal_within : (machine : Machine) (plans : List Plan) (ask : Ask) (goal : State) → IsKnownOrigin machine ask.origin → IsOpen machine plans ask (going goal []) → goal.loc.0 < length machine.locations

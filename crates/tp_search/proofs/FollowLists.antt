@@ -19,12 +19,12 @@ use Rattle.tp_schedule.specs.declared.parts.Ask.{Ask}
 use Rattle.tp_schedule.specs.declared.parts.Origin.{Origin}
 use Rattle.tp_schedule.specs.declared.parts.Origin.TheVariants.{Feeder as FromFeeder, Front as FromFront}
 use Rattle.tp_schedule.specs.declared.parts.Plan.{Plan}
-use Rattle.tp_choices.proofs.Leaving.{parent_opens}
+use Rattle.tp_choices.proofs.ShorterLists.{parent_opens}
 use Rattle.tp_placing.specs.Boards.{BoardValue, suffix_of}
-use Rattle.tp_placing.specs.Standing.{choices_of}
+use Rattle.tp_placing.specs.LoadedBoard.{choices_of}
 use Rattle.tp_placing.proofs.StandFacts.{some-and}
 use Rattle.tp_search.proofs.FollowSteps.{child-more, child-stop}
-use Rattle.tp_search.specs.Following.{HasList, IsStoredList, list_from}
+use Rattle.tp_search.specs.StoredLists.{HasList, IsStoredList, list_from}
 use Rattle.tp_search.specs.Stored.{child_by, choice_with, choices_by, list_by}
 
 -- behind the first

@@ -2,13 +2,13 @@
 use Rattle.std.proofs.Common.{◌≡◌, ℕ, ◌+◌, ◌<◌, ◌≤◌, false, List, [], ◌∷◌, ◌++◌, length, take, drop, get_or, refl, sym, ap, ◌∙◌, arith, subst, Some, IsSomeAnd}
 use Rattle.std.specs.Prelude.{slice_get}
 use Rattle.std.proofs.lemmas.List.{append-nil, drop_more, get_or-take, length-take, take-append-drop, take-take, take_more}
-use Rattle.tp_machine.specs.Using.{action_at}
+use Rattle.tp_machine.specs.ModuleUse.{action_at}
 use Rattle.tp_machine.specs.declared.parts.ActId.{ActId}
 use Rattle.tp_machine.specs.declared.parts.HoldRule.{HoldRule}
 use Rattle.tp_machine.specs.declared.parts.State.{State}
 use Rattle.tp_machine.specs.declared.machine.Machine.{Machine}
 use Rattle.tp_schedule.specs.Choices.{AreWithin, Choice, IsOpen, going}
-use Rattle.tp_schedule.specs.Holding.{holds_of_act}
+use Rattle.tp_schedule.specs.Holders.{holds_of_act}
 use Rattle.tp_schedule.specs.Spots.{Slot}
 use Rattle.tp_schedule.specs.declared.parts.Ask.{Ask}
 use Rattle.tp_schedule.specs.declared.parts.Plan.{Plan}
@@ -18,12 +18,12 @@ use Rattle.tp_placing.specs.Boards.{BoardValue, suffix_of}
 use Rattle.tp_placing.specs.Calls.{CanPlace, HasNoTimes, IsSameLoad}
 use Rattle.tp_placing.proofs.StandFacts.{and-some, some-and}
 use Rattle.tp_search.proofs.FollowGoal.{refused-late}
-use Rattle.tp_ways.proofs.WayChildren.{child-late, child-places, place-beyond}
-use Rattle.tp_ways.proofs.WaySteps.{HaveRooms-places}
-use Rattle.tp_search.specs.Following.{AwaitsPlaces, newest_with, with_places}
+use Rattle.tp_constraints.proofs.WayChildren.{child-late, child-places, place-beyond}
+use Rattle.tp_constraints.proofs.WaySteps.{HaveRooms-places}
+use Rattle.tp_search.specs.StoredLists.{AwaitsPlaces, newest_with, with_places}
 use Rattle.tp_search.specs.Stored.{choice_with}
-use Rattle.tp_ways.specs.WayLaws.{IsLate}
-use Rattle.tp_ways.specs.Ways.{IsWay}
+use Rattle.tp_constraints.specs.WayLaws.{IsLate}
+use Rattle.tp_constraints.specs.Ways.{IsWay}
 
 -- the first of all places are places for the first holds
 within-first : (orders : ℕ → List Slot) (rules : List HoldRule) (first rest : List ℕ) → AreWithin orders rules (first ++ rest) → AreWithinSoFar orders rules first

@@ -3,7 +3,7 @@ use Rattle.std.proofs.Common.{◌≡◌, ℕ, ◌<◌, false, List, [], ◌∷�
 use Rattle.std.specs.Prelude.{option_map, unwrap_or}
 use Rattle.std.proofs.lemmas.Option.{slice_get_within}
 use Rattle.tp_base.specs.Readings.{Reading}
-use Rattle.tp_machine.specs.Using.{action_at, is_allowed}
+use Rattle.tp_machine.specs.ModuleUse.{action_at, is_allowed}
 use Rattle.tp_machine.specs.declared.parts.ActId.{ActId}
 use Rattle.tp_machine.specs.declared.parts.Action.{Action}
 use Rattle.tp_machine.specs.declared.parts.State.{State}
@@ -11,22 +11,22 @@ use Rattle.tp_machine.specs.declared.machine.Machine.{Machine}
 use Rattle.tp_pool.specs.declared.choice.Choice.{Choice as Stored}
 use Rattle.tp_schedule.proofs.Walks.{AreAllowed-head}
 use Rattle.tp_schedule.specs.Choices.{Choice, IsOpen, acts_of, going, stopping}
-use Rattle.tp_schedule.specs.Holding.{holds_of_act}
+use Rattle.tp_schedule.specs.Holders.{holds_of_act}
 use Rattle.tp_schedule.specs.declared.parts.Ask.{Ask}
 use Rattle.tp_schedule.specs.declared.parts.Plan.{Plan}
 use Rattle.tp_constraints.specs.Suffixes.{Suffix, with_action, with_stop}
 use Rattle.tp_placing.specs.Boards.{BoardValue, suffix_of}
 use Rattle.tp_placing.specs.Calls.{HasNoTimes, IsSameLoad}
-use Rattle.tp_placing.specs.Standing.{Stands}
+use Rattle.tp_placing.specs.LoadedBoard.{Stands}
 use Rattle.tp_placing.proofs.StandFacts.{and-some, some-and}
 use Rattle.tp_search.proofs.FollowGoal.{refused-late}
 use Rattle.tp_search.proofs.FollowPlaces.{all-placed}
-use Rattle.tp_ways.proofs.WayChildren.{child-closed, child-late, child-places, stop-late}
-use Rattle.tp_ways.proofs.WaySteps.{action-way}
-use Rattle.tp_search.specs.Following.{AwaitsPlaces, HasList, IsWayTo, with_places}
+use Rattle.tp_constraints.proofs.WayChildren.{child-closed, child-late, child-places, stop-late}
+use Rattle.tp_constraints.proofs.WaySteps.{action-way}
+use Rattle.tp_search.specs.StoredLists.{AwaitsPlaces, HasList, IsWayTo, with_places}
 use Rattle.tp_search.specs.States.{HasNoneBefore, IsBefore}
 use Rattle.tp_search.specs.Stored.{child_by, choice_with, is_stop, with_stored}
-use Rattle.tp_ways.specs.Ways.{IsPlaced, IsWay}
+use Rattle.tp_constraints.specs.Ways.{IsPlaced, IsWay}
 use Rattle.tp_search.specs.declared.states.Before.{Before}
 
 -- a stored choice is the stop, or an action more

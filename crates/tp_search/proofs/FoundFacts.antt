@@ -13,8 +13,8 @@ use Rattle.tp_placing.specs.Ticks.{HasLeastTick}
 use Rattle.tp_placing.proofs.StandFacts.{and-some}
 use Rattle.tp_search.specs.Boards.{IsFurther, IsLaid}
 use Rattle.tp_search.specs.Children.{HasFound}
-use Rattle.tp_search.specs.Following.{HasList, IsWayTo}
-use Rattle.tp_ways.specs.Ways.{IsPlaced}
+use Rattle.tp_search.specs.StoredLists.{HasList, IsWayTo}
+use Rattle.tp_constraints.specs.Ways.{IsPlaced}
 use Rattle.tp_search.proofs.BoardSteps.{the-way}
 use Rattle.tp_search.proofs.ChildBoards.{going-of, laid-bound, laid-complete}
 

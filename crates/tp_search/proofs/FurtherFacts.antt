@@ -7,11 +7,11 @@ use Rattle.tp_schedule.specs.declared.parts.Ask.{Ask}
 use Rattle.tp_placing.specs.Boards.{BoardValue, content_of, past_of}
 use Rattle.tp_placing.specs.Calls.{IsSameLoad}
 use Rattle.tp_placing.specs.Laws.{UndoKeeps}
-use Rattle.tp_placing.specs.Standing.{Stands}
+use Rattle.tp_placing.specs.LoadedBoard.{Stands}
 use Rattle.tp_search.specs.Boards.{IsBack, IsFurther}
 use Rattle.tp_search.specs.Children.{HasFound}
-use Rattle.tp_search.specs.Diving.{IsDeeper}
-use Rattle.tp_search.specs.declared.following.Laid.{Laid}
+use Rattle.tp_search.specs.Dives.{IsDeeper}
+use Rattle.tp_search.specs.declared.stored_list.Laid.{Laid}
 use Rattle.tp_search.proofs.BoardSteps.{IsMarked, IsUndone, load-of, load-trans, undone-back}
 
 module _ {N : Type 0} (reading : Reading N) where

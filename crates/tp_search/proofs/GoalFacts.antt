@@ -16,7 +16,7 @@ use Rattle.tp_schedule.proofs.Pairs.{AllPairs-nil, AllPairs-cons}
 use Rattle.tp_constraints.proofs.Lists.{AllPairs-append}
 use Rattle.tp_routes.specs.Numbers.{number_of, state_at}
 use Rattle.tp_routes.specs.Tables.{IsKnownOrigin}
-use Rattle.tp_search.specs.Searching.{AreOpenGoals, list_of_goal}
+use Rattle.tp_search.specs.SearchProgress.{AreOpenGoals, list_of_goal}
 use Rattle.tp_search.specs.declared.goals.OpenGoal.{OpenGoal}
 use Rattle.tp_search.proofs.FollowGoal.{goal_within}
 use Rattle.tp_search.proofs.StateFacts.{every_state, number_of_state}

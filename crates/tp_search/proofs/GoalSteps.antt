@@ -13,9 +13,9 @@ use Rattle.tp_placing.specs.Boards.{BoardValue, suffix_of}
 use Rattle.tp_placing.specs.Calls.{HasNoTimes, IsSameLoad}
 use Rattle.tp_placing.specs.Ticks.{HasLeastTick, IsLeastTick, TimesOf}
 use Rattle.tp_search.proofs.FollowGoal.{refused-late}
-use Rattle.tp_ways.proofs.WayChildren.{goal-closed, goal-late}
+use Rattle.tp_constraints.proofs.WayChildren.{goal-closed, goal-late}
 use Rattle.tp_search.proofs.WayBounds.{way-bound}
-use Rattle.tp_ways.proofs.WaySteps.{goal-way}
+use Rattle.tp_constraints.proofs.WaySteps.{goal-way}
 
 -- what is no goal state with room has no open list without choices
 pub goal-shut : (machine : Machine) (plans : List Plan) (ask : Ask) (goal : State) → (IsGoalState machine ask.want ask.goal goal → HasNoRoom machine ask goal) → ¬ IsOpen machine plans ask (going goal [])

@@ -4,14 +4,14 @@ use Rattle.tp_machine.specs.Machines.{IsMachine}
 use Rattle.tp_machine.specs.declared.machine.Machine.{Machine}
 use Rattle.tp_schedule.specs.Answers.{IsAlternative, NoneBefore}
 use Rattle.tp_schedule.specs.Choices.{ChoiceList, IsBound, IsComplete}
-use Rattle.tp_schedule.specs.Living.{is_live}
-use Rattle.tp_schedule.specs.Planning.{CanAsk, IsKnownGoal}
-use Rattle.tp_schedule.specs.Spending.{FewListsOpen, IsSpent}
+use Rattle.tp_schedule.specs.LivePlans.{is_live}
+use Rattle.tp_schedule.specs.PlannerAnswers.{CanAsk, IsKnownGoal}
+use Rattle.tp_schedule.specs.SpentBudget.{FewListsOpen, IsSpent}
 use Rattle.tp_schedule.specs.declared.parts.Ask.{Ask}
 use Rattle.tp_schedule.specs.declared.parts.Plan.{Plan}
 use Rattle.tp_schedule.specs.declared.parts.SheetId.{SheetId}
 use Rattle.tp_choices.specs.LiveParts.{MayAskBeside, MayForget, less}
-use Rattle.tp_placing.specs.Writing.{IsHeldFrom, IsLoadedFrom}
+use Rattle.tp_placing.specs.Commits.{IsHeldFrom, IsLoadedFrom}
 use Rattle.tp_placing.proofs.HeldPlans.{held-live}
 use Rattle.tp_placing.proofs.WriteLive.{gone, may-ask, may-forget}
 use Rattle.tp_placing.proofs.WriteWhole.{less-live}

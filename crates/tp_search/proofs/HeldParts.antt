@@ -9,7 +9,7 @@ use Rattle.tp_schedule.specs.Answers.{IsAlternative, NoneBefore, unmoved}
 use Rattle.tp_schedule.specs.Choices.{Choice, ChoiceList, IsBound, IsChild, IsComplete, IsCompleteFrom, IsOpen}
 use Rattle.tp_schedule.specs.Plans.{end_of_plan, is_same_copy, without}
 use Rattle.tp_schedule.specs.Routes.{walk}
-use Rattle.tp_schedule.specs.Spending.{FewListsOpen, IsSpent, IsStoredOrEmpty}
+use Rattle.tp_schedule.specs.SpentBudget.{FewListsOpen, IsSpent, IsStoredOrEmpty}
 use Rattle.tp_schedule.specs.declared.parts.Ask.{Ask}
 use Rattle.tp_schedule.specs.declared.parts.Origin.{Origin}
 use Rattle.tp_schedule.specs.declared.parts.Origin.TheVariants.{Feeder as FromFeeder, Front as FromFront}
@@ -19,7 +19,7 @@ use Rattle.tp_schedule.proofs.CopyFacts.{same_copy-is}
 use Rattle.tp_schedule.proofs.Membership.{Contains-filter, Contains-filter_from, Contains-here, Contains-later, Contains-map, Contains-map_from}
 use Rattle.tp_schedule.proofs.Pairs.{AllPairs-each, AllPairs-map, AllPairs-map_from}
 use Rattle.tp_choices.specs.LiveParts.{MayAskBeside, MayForget, forgotten_on, less, shift_choice, shifted}
-use Rattle.tp_choices.proofs.Joining.{join_exists}
+use Rattle.tp_choices.proofs.RejoinedPlans.{join_exists}
 use Rattle.tp_choices.proofs.LiveAnswers.{live_answers}
 use Rattle.tp_choices.proofs.LiveBounds.{live_bounds, shifted-one}
 use Rattle.tp_choices.proofs.LiveLists.{live_opens}

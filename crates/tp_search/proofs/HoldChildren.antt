@@ -10,12 +10,12 @@ use Rattle.tp_pool.specs.declared.choice.Choice.{Choice as Stored}
 use Rattle.tp_schedule.specs.Choices.{IsOpen, going}
 use Rattle.tp_schedule.specs.declared.parts.Ask.{Ask}
 use Rattle.tp_placing.specs.Boards.{BoardValue, suffix_of}
-use Rattle.tp_placing.specs.Standing.{choices_of as laid_by}
-use Rattle.tp_search.specs.Following.{HasList}
-use Rattle.tp_search.specs.Holding.{HoldsList, IsOneMore}
+use Rattle.tp_placing.specs.LoadedBoard.{choices_of as laid_by}
+use Rattle.tp_search.specs.StoredLists.{HasList}
+use Rattle.tp_search.specs.HeldLists.{HoldsList, IsOneMore}
 use Rattle.tp_search.specs.Stored.{child_by, choices_by, list_by}
 use Rattle.tp_search.specs.Stores.{StoreValue}
-use Rattle.tp_search.specs.declared.holding.HeldList.{HeldList}
+use Rattle.tp_search.specs.declared.held_list.HeldList.{HeldList}
 use Rattle.tp_search.proofs.OpenSteps.{choices-carried}
 
 -- which lists wait does not matter for a held list

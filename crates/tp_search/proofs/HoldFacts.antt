@@ -13,14 +13,14 @@ use Rattle.tp_schedule.specs.Legality.{IsLegal}
 use Rattle.tp_schedule.specs.declared.parts.Ask.{Ask}
 use Rattle.tp_placing.specs.Boards.{BoardValue, content_of, past_of}
 use Rattle.tp_placing.specs.Laws.{MarkKeeps, UndoKeeps}
-use Rattle.tp_placing.specs.Standing.{Stands}
+use Rattle.tp_placing.specs.LoadedBoard.{Stands}
 use Rattle.tp_search.specs.Boards.{HasMarks, IsBack, IsReady}
 use Rattle.tp_search.specs.Children.{HasFound}
-use Rattle.tp_search.specs.Following.{HasList, IsSameButSteps}
-use Rattle.tp_search.specs.Holding.{IsLaidSince, IsOver}
+use Rattle.tp_search.specs.StoredLists.{HasList, IsSameButSteps}
+use Rattle.tp_search.specs.HeldLists.{IsLaidSince, IsOver}
 use Rattle.tp_search.specs.Outcomes.{HasAnswer}
-use Rattle.tp_search.specs.declared.holding.HeldList.{HeldList}
-use Rattle.tp_search.specs.declared.holding.Root.{Root}
+use Rattle.tp_search.specs.declared.held_list.HeldList.{HeldList}
+use Rattle.tp_search.specs.declared.held_list.Root.{Root}
 use Rattle.tp_search.proofs.BoardSteps.{IsMarked, IsUndone, load-of, load-trans, ready-back, slice-at}
 use Rattle.tp_search.proofs.StepBoards.{marked-ready, stands-asked, stands-legal}
 

@@ -2,7 +2,7 @@
 use Rattle.std.proofs.Common.{◌≡◌, ◌≢◌, inl, inr, ltb, ◌∷◌, slice_get, ℕ, zero, suc, ◌+◌, ◌-◌, ◌<◌, ◌≤◌, List, [], length, Option, Some, None, option_map, refl, sym, ap, subst, arith}
 use Rattle.std.proofs.lemmas.Bool.{cases_Bool, ltb-true, ltb-false}
 use Rattle.tp_base.specs.Readings.{Reading}
-use Rattle.tp_machine.specs.Using.{action_at}
+use Rattle.tp_machine.specs.ModuleUse.{action_at}
 use Rattle.tp_machine.specs.declared.parts.ActId.{ActId}
 use Rattle.tp_machine.specs.declared.parts.Action.{Action}
 use Rattle.tp_machine.specs.declared.parts.LocId.{LocId}
@@ -20,8 +20,8 @@ use Rattle.tp_constraints.specs.Suffixes.{HaveRooms}
 use Rattle.tp_routes.specs.Index.{IsLeadIndex, IsNextTo, NoneTo, number_at}
 use Rattle.tp_placing.specs.Boards.{BoardValue}
 use Rattle.tp_search.specs.Boards.{IsLaid}
-use Rattle.tp_search.specs.Opening.{IsAtProgress}
-use Rattle.tp_search.specs.Opening.Progress.{up_to}
+use Rattle.tp_search.specs.OpenedLists.{IsAtProgress}
+use Rattle.tp_search.specs.OpenedLists.Progress.{up_to}
 use Rattle.tp_search.specs.States.{HasNoneBefore}
 use Rattle.tp_search.specs.Stored.{choices_by}
 use Rattle.tp_search.specs.Stores.{StoreValue}

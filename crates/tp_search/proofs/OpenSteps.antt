@@ -12,16 +12,16 @@ use Rattle.tp_schedule.specs.Choices.{Choice, ChoiceList, going}
 use Rattle.tp_schedule.specs.declared.parts.Ask.{Ask}
 use Rattle.tp_schedule.specs.declared.parts.Plan.{Plan}
 use Rattle.tp_placing.specs.Boards.{BoardValue, suffix_of}
-use Rattle.tp_placing.specs.Standing.{choices_of}
+use Rattle.tp_placing.specs.LoadedBoard.{choices_of}
 use Rattle.tp_placing.proofs.StandFacts.{some-and}
 use Rattle.tp_search.specs.Boards.{IsBack}
-use Rattle.tp_search.specs.Following.{HasList, IsStoredList, IsWayTo}
+use Rattle.tp_search.specs.StoredLists.{HasList, IsStoredList, IsWayTo}
 use Rattle.tp_search.specs.Outcomes.{CanOpen}
-use Rattle.tp_search.specs.Searching.{next_node}
+use Rattle.tp_search.specs.SearchProgress.{next_node}
 use Rattle.tp_search.specs.Stored.{choices_by, is_stop, list_by, with_stored}
 use Rattle.tp_search.specs.Stores.{StoreValue}
-use Rattle.tp_search.specs.declared.taking.Next.{Next}
-use Rattle.tp_search.specs.declared.taking.Next.TheVariants.{Goal, Node}
+use Rattle.tp_search.specs.declared.next_list.Next.{Next}
+use Rattle.tp_search.specs.declared.next_list.Next.TheVariants.{Goal, Node}
 use Rattle.tp_search.proofs.BoardSteps.{suffix-back}
 
 -- stored choices without the stop are as many as the choices

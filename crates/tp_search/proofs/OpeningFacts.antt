@@ -3,19 +3,19 @@ use Rattle.std.proofs.Common.{◌≡◌, ◌==◌, ◌↔◌, ◌⊎◌, inl, in
 use Rattle.std.proofs.lemmas.Bool.{eqb-false, eqb-true}
 use Rattle.std.proofs.lemmas.List.{append-nil, take-append-le}
 use Rattle.std.proofs.lemmas.List.Elements.{All-weaker}
-use Rattle.tp_machine.specs.Using.{action_at}
+use Rattle.tp_machine.specs.ModuleUse.{action_at}
 use Rattle.tp_machine.specs.declared.parts.ActId.{ActId}
 use Rattle.tp_machine.specs.declared.machine.Machine.{Machine}
 use Rattle.tp_pool.specs.Entries.{Entry, choices_before}
 use Rattle.tp_pool.specs.declared.choice.Choice.{Choice as Stored}
 use Rattle.tp_schedule.specs.Choices.{Choice, ChoiceList, IsBound, IsChild, IsComplete, IsOpen, going, stopping}
-use Rattle.tp_schedule.specs.Holding.{holds_of_act}
+use Rattle.tp_schedule.specs.Holders.{holds_of_act}
 use Rattle.tp_schedule.specs.declared.parts.Ask.{Ask}
 use Rattle.tp_schedule.specs.declared.parts.Plan.{Plan}
 use Rattle.tp_search.specs.Limits.{IsMetLimit, IsWithin, OpensWithin}
 use Rattle.tp_search.specs.declared.store.Limit.{Limit}
-use Rattle.tp_search.specs.Opening.{IsAhead, IsAtProgress, IsFresh, IsLooked, IsOpenChild, IsOpening, Progress, parent_of}
-use Rattle.tp_search.specs.Opening.Progress.{nothing, through, up_to}
+use Rattle.tp_search.specs.OpenedLists.{IsAhead, IsAtProgress, IsFresh, IsLooked, IsOpenChild, IsOpening, Progress, parent_of}
+use Rattle.tp_search.specs.OpenedLists.Progress.{nothing, through, up_to}
 use Rattle.tp_search.specs.Stored.{child_by, choices_by, list_by}
 use Rattle.tp_search.specs.Stores.{StoreValue, after_keep, better, entry_of, with_list}
 use Rattle.tp_search.specs.declared.opening.Opening.{Opening}

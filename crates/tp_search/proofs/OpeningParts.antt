@@ -12,7 +12,7 @@ use Rattle.tp_schedule.specs.declared.parts.Plan.{Plan}
 use Rattle.tp_schedule.proofs.Membership.{Contains-map_from}
 use Rattle.tp_search.specs.Limits.{OpensWithin}
 use Rattle.tp_search.specs.declared.store.Limit.{Limit}
-use Rattle.tp_search.specs.Opening.{Answers, IsLooked, IsOpenChild, IsOpening, Progress}
+use Rattle.tp_search.specs.OpenedLists.{Answers, IsLooked, IsOpenChild, IsOpening, Progress}
 use Rattle.tp_search.specs.Stored.{list_by, lists_by}
 use Rattle.tp_search.specs.Stores.{better}
 use Rattle.tp_search.proofs.BestFacts.{best-more}

@@ -7,7 +7,7 @@ use Rattle.tp_pool.specs.declared.choice.Choice.{Choice as Stored}
 use Rattle.tp_schedule.specs.Choices.{ChoiceList, IsChild, going}
 use Rattle.tp_schedule.specs.declared.parts.Ask.{Ask}
 use Rattle.tp_schedule.specs.declared.parts.Plan.{Plan}
-use Rattle.tp_search.specs.Opening.{IsAtProgress, IsFresh, IsSameOpening, Progress, parent_of}
+use Rattle.tp_search.specs.OpenedLists.{IsAtProgress, IsFresh, IsSameOpening, Progress, parent_of}
 use Rattle.tp_search.specs.Stored.{choices_by, list_by}
 use Rattle.tp_search.specs.Stores.{HasBounds, StoreGrows, StoreValue}
 use Rattle.tp_search.specs.declared.opening.Opening.{Opening}

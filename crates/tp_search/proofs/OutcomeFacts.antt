@@ -4,14 +4,14 @@ use Rattle.tp_base.specs.Readings.{Reading}
 use Rattle.tp_machine.specs.declared.machine.Machine.{Machine}
 use Rattle.tp_schedule.specs.Answers.{IsAlternative, NoneBefore}
 use Rattle.tp_schedule.specs.Choices.{IsBound}
-use Rattle.tp_schedule.specs.Spending.{FewListsOpen, IsSpent}
+use Rattle.tp_schedule.specs.SpentBudget.{FewListsOpen, IsSpent}
 use Rattle.tp_schedule.specs.declared.parts.Ask.{Ask}
 use Rattle.tp_schedule.specs.declared.parts.Plan.{Plan}
 use Rattle.tp_placing.specs.Boards.{BoardValue}
 use Rattle.tp_search.specs.Boards.{IsBack}
 use Rattle.tp_search.specs.Outcomes.{HasAnswer, IsOutcome}
-use Rattle.tp_search.specs.declared.searching.Outcome.{Outcome}
-use Rattle.tp_search.specs.declared.searching.Outcome.TheVariants.{Again, Found, Never, Spent}
+use Rattle.tp_search.specs.declared.best_first.Outcome.{Outcome}
+use Rattle.tp_search.specs.declared.best_first.Outcome.TheVariants.{Again, Found, Never, Spent}
 use Rattle.tp_search.proofs.BoardSteps.{back-trans, load-trans}
 
 module _ {N : Type 0} (reading : Reading N) (b b1 b' : BoardValue N) (machine : Machine) (ask : Ask) (back : IsBack reading b b1 machine) where

@@ -3,13 +3,13 @@ use Rattle.std.proofs.Common.{◌≡◌, ◌⊎◌, inl, inr, ℕ, suc, ◌+◌,
 use Rattle.std.specs.Prelude.{slice_get}
 use Rattle.std.proofs.lemmas.List.{append_assoc}
 use Rattle.tp_base.specs.Readings.{Reading}
-use Rattle.tp_machine.specs.Using.{action_at}
+use Rattle.tp_machine.specs.ModuleUse.{action_at}
 use Rattle.tp_machine.specs.declared.parts.ActId.{ActId}
 use Rattle.tp_machine.specs.declared.parts.HoldRule.{HoldRule}
 use Rattle.tp_machine.specs.declared.parts.State.{State}
 use Rattle.tp_machine.specs.declared.machine.Machine.{Machine}
 use Rattle.tp_schedule.specs.Choices.{Choice, ChoiceList, IsChild, OpensTo, going, stopping}
-use Rattle.tp_schedule.specs.Holding.{holds_of_act}
+use Rattle.tp_schedule.specs.Holders.{holds_of_act}
 use Rattle.tp_schedule.specs.declared.parts.Ask.{Ask}
 use Rattle.tp_schedule.specs.declared.parts.Plan.{Plan}
 use Rattle.tp_schedule.specs.Spots.{Ticks}
@@ -17,14 +17,14 @@ use Rattle.tp_schedule.specs.Spots.Spot.{own}
 use Rattle.tp_constraints.specs.Suffixes.{SuffixTimes, with_place}
 use Rattle.tp_placing.specs.Boards.{BoardValue, suffix_of}
 use Rattle.tp_placing.specs.Calls.{HasNoTimes}
-use Rattle.tp_placing.specs.Standing.{order_after}
+use Rattle.tp_placing.specs.LoadedBoard.{order_after}
 use Rattle.tp_placing.specs.Ticks.{HasLeastTick}
-use Rattle.tp_placing.specs.Walking.{EndsAfterUpTo, HasNoTimesUpTo}
+use Rattle.tp_placing.specs.RefusedPlace.{EndsAfterUpTo, HasNoTimesUpTo}
 use Rattle.tp_placing.proofs.StandFacts.{and-some, some-and}
 use Rattle.tp_search.specs.Boards.{IsLaid}
 use Rattle.tp_search.specs.Limits.{IsWithin, OpensWithin}
-use Rattle.tp_search.specs.Opening.{IsAtProgress, IsLooked, IsUnder, parent_of}
-use Rattle.tp_search.specs.Opening.Progress.{through, up_to}
+use Rattle.tp_search.specs.OpenedLists.{IsAtProgress, IsLooked, IsUnder, parent_of}
+use Rattle.tp_search.specs.OpenedLists.Progress.{through, up_to}
 use Rattle.tp_search.specs.Stores.{StoreValue}
 use Rattle.tp_search.specs.declared.store.Limit.{Limit}
 use Rattle.tp_search.specs.declared.store.Limit.TheVariants.{By, Sought, Unsought}

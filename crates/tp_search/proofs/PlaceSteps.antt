@@ -3,7 +3,7 @@ use Rattle.std.proofs.Common.{◌≡◌, ◌↔◌, ℕ, zero, suc, ◌+◌, ◌
 use Rattle.std.specs.Prelude.{slice_get, slice_set}
 use Rattle.std.proofs.lemmas.List.{length-append, take_more_set}
 use Rattle.tp_base.specs.Readings.{Reading}
-use Rattle.tp_machine.specs.Using.{action_at}
+use Rattle.tp_machine.specs.ModuleUse.{action_at}
 use Rattle.tp_machine.specs.declared.parts.Action.{Action}
 use Rattle.tp_machine.specs.declared.parts.ActId.{ActId}
 use Rattle.tp_machine.specs.declared.parts.HoldRule.{HoldRule}
@@ -13,7 +13,7 @@ use Rattle.tp_machine.proofs.MachineFacts.{is_machine}
 use Rattle.tp_pool.specs.Entries.{choices_before}
 use Rattle.tp_pool.specs.declared.choice.Choice.{Choice as Stored}
 use Rattle.tp_schedule.specs.Choices.{Choice, ChoiceList, IsBound, IsComplete, going}
-use Rattle.tp_schedule.specs.Holding.{holds_of_act}
+use Rattle.tp_schedule.specs.Holders.{holds_of_act}
 use Rattle.tp_schedule.specs.Routes.{IsStart}
 use Rattle.tp_schedule.specs.Spots.Spot.{own}
 use Rattle.tp_schedule.specs.declared.parts.Ask.{Ask}
@@ -23,15 +23,15 @@ use Rattle.tp_constraints.proofs.Lists.{contains-get}
 use Rattle.tp_placing.specs.Boards.{BoardValue, content_of, past_of, suffix_of}
 use Rattle.tp_placing.specs.Calls.{CanPlace, HasNoTimes, IsSameLoad}
 use Rattle.tp_placing.specs.Laws.{MarkKeeps, UndoKeeps}
-use Rattle.tp_placing.specs.Standing.{Stands, order_after}
-use Rattle.tp_placing.specs.Walking.{EndsAfterUpTo, HasNoTimesUpTo, StandsBack}
+use Rattle.tp_placing.specs.LoadedBoard.{Stands, order_after}
+use Rattle.tp_placing.specs.RefusedPlace.{EndsAfterUpTo, HasNoTimesUpTo, StandsBack}
 use Rattle.tp_placing.specs.Ticks.{HasLeastTick}
 use Rattle.tp_placing.proofs.StandFacts.{some-and}
 use Rattle.tp_search.specs.Boards.{HasMarks, IsBack, IsLaid}
 use Rattle.tp_search.specs.Children.{HasFound}
 use Rattle.tp_search.specs.Limits.{IsWithin}
-use Rattle.tp_search.specs.Opening.{IsAtProgress, IsFresh, IsSameOpening, parent_of}
-use Rattle.tp_search.specs.Opening.Progress.{through, up_to}
+use Rattle.tp_search.specs.OpenedLists.{IsAtProgress, IsFresh, IsSameOpening, parent_of}
+use Rattle.tp_search.specs.OpenedLists.Progress.{through, up_to}
 use Rattle.tp_search.specs.Stored.{child_by, choices_by}
 use Rattle.tp_search.specs.Stores.{HasBounds, IsInRange, StoreValue, after_keep}
 use Rattle.tp_search.specs.declared.opening.Opening.{Opening}

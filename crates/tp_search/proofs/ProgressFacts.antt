@@ -3,8 +3,8 @@ use Rattle.std.proofs.Common.{◌≡◌, ◌↔◌, ◌⊎◌, inl, inr, ℕ, su
 use Rattle.std.proofs.lemmas.Bool.{cases_lt}
 use Rattle.std.proofs.lemmas.List.{append-nil, append_assoc}
 use Rattle.tp_schedule.specs.Choices.{Choice, ChoiceList}
-use Rattle.tp_search.specs.Opening.{AreTriedBefore, IsAhead, IsLooked, IsUnder}
-use Rattle.tp_search.specs.Opening.Progress.{through, up_to}
+use Rattle.tp_search.specs.OpenedLists.{AreTriedBefore, IsAhead, IsLooked, IsUnder}
+use Rattle.tp_search.specs.OpenedLists.Progress.{through, up_to}
 
 pub tried-itself : (xs : List ℕ) → AreTriedBefore xs xs → ⊥
 tried-itself [] tried = tried

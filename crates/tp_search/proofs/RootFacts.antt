@@ -10,10 +10,10 @@ use Rattle.tp_schedule.specs.Choices.{going}
 use Rattle.tp_schedule.specs.declared.parts.Ask.{Ask}
 use Rattle.tp_placing.specs.Boards.{BoardContent, BoardValue, content_of, past_of, suffix_after, suffix_of}
 use Rattle.tp_placing.specs.Laws.{MarkKeeps, UndoKeeps}
-use Rattle.tp_placing.specs.Standing.{Stands}
-use Rattle.tp_search.specs.Following.{HasList, IsWayTo}
-use Rattle.tp_search.specs.Holding.{CarriesGoal, IsLaidSince}
-use Rattle.tp_search.specs.declared.holding.Root.{Root}
+use Rattle.tp_placing.specs.LoadedBoard.{Stands}
+use Rattle.tp_search.specs.StoredLists.{HasList, IsWayTo}
+use Rattle.tp_search.specs.HeldLists.{CarriesGoal, IsLaidSince}
+use Rattle.tp_search.specs.declared.held_list.Root.{Root}
 use Rattle.tp_search.proofs.BoardSteps.{IsMarked, IsUndone, load-of, load-trans, slice-at, suffix-back}
 use Rattle.tp_search.proofs.HoldFacts.{two-behind}
 

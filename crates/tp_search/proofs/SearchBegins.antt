@@ -7,7 +7,7 @@ use Rattle.tp_schedule.specs.declared.parts.Ask.{Ask}
 use Rattle.tp_schedule.specs.declared.parts.Plan.{Plan}
 use Rattle.tp_schedule.proofs.Pairs.{AllPairs-nil}
 use Rattle.tp_search.specs.Limits.{HasNoLimit}
-use Rattle.tp_search.specs.Searching.{AreOpenGoals, IsOpenEntry, IsSearching, list_of_goal}
+use Rattle.tp_search.specs.SearchProgress.{AreOpenGoals, IsOpenEntry, IsSearching, list_of_goal}
 use Rattle.tp_search.specs.Stored.{list_by}
 use Rattle.tp_search.specs.Stores.{HasBounds, StoreValue, empty_store}
 use Rattle.tp_search.specs.declared.goals.OpenGoal.{OpenGoal}

@@ -10,20 +10,20 @@ use Rattle.tp_machine.specs.declared.machine.Machine.{Machine}
 use Rattle.tp_pool.specs.Entries.{Entry, bound_of, choices_of, entry_at}
 use Rattle.tp_schedule.specs.Answers.{IsAlternative, IsAsked, NoneBefore}
 use Rattle.tp_schedule.specs.Choices.{IsBound, IsComplete, OpensTo}
-use Rattle.tp_schedule.specs.Planning.{IsKnownGoal}
+use Rattle.tp_schedule.specs.PlannerAnswers.{IsKnownGoal}
 use Rattle.tp_schedule.specs.Legality.{IsLegal}
-use Rattle.tp_schedule.specs.Spending.{FewListsOpen}
+use Rattle.tp_schedule.specs.SpentBudget.{FewListsOpen}
 use Rattle.tp_schedule.specs.declared.parts.Ask.{Ask}
 use Rattle.tp_schedule.specs.declared.parts.Plan.{Plan}
-use Rattle.tp_search.specs.Following.{IsStoredList}
+use Rattle.tp_search.specs.StoredLists.{IsStoredList}
 use Rattle.tp_search.specs.Limits.{IsSearchedTo, IsWithin}
-use Rattle.tp_search.specs.Searching.{IsBestLater, IsNext, IsSearching, list_at, list_of_goal, next_bound, next_list, waiting_in}
+use Rattle.tp_search.specs.SearchProgress.{IsBestLater, IsNext, IsSearching, list_at, list_of_goal, next_bound, next_list, waiting_in}
 use Rattle.tp_search.specs.Stored.{HasBest, list_by, lists_by}
 use Rattle.tp_search.specs.Stores.{StoreValue}
 use Rattle.tp_search.specs.declared.goals.OpenGoal.{OpenGoal}
-use Rattle.tp_search.specs.declared.taking.Next.{Next}
-use Rattle.tp_search.specs.declared.taking.Next.TheVariants.{Goal, Node}
-use Rattle.tp_ways.proofs.WayAnswers.{goal-incomplete}
+use Rattle.tp_search.specs.declared.next_list.Next.{Next}
+use Rattle.tp_search.specs.declared.next_list.Next.TheVariants.{Goal, Node}
+use Rattle.tp_constraints.proofs.WayAnswers.{goal-incomplete}
 use Rattle.tp_search.proofs.LimitFacts.{bound-within, no-limit, none-before-within, searched-whole}
 use Rattle.tp_search.proofs.SearchNext.{IsKnownNext, entry-open, next-known, waiting-cases}
 

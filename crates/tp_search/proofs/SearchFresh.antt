@@ -15,14 +15,14 @@ use Rattle.tp_schedule.specs.declared.parts.Plan.{Plan}
 use Rattle.tp_schedule.proofs.Membership.{Contains-map}
 use Rattle.tp_schedule.proofs.Pairs.{AllPairs-nil}
 use Rattle.tp_search.specs.Limits.{IsWithin}
-use Rattle.tp_search.specs.Opening.{IsAtProgress, IsFresh, IsOpenChild, parent_of}
-use Rattle.tp_search.specs.Opening.Progress.{nothing}
-use Rattle.tp_search.specs.Searching.{IsSearching, next_bound, next_list, next_node, opening_of}
+use Rattle.tp_search.specs.OpenedLists.{IsAtProgress, IsFresh, IsOpenChild, parent_of}
+use Rattle.tp_search.specs.OpenedLists.Progress.{nothing}
+use Rattle.tp_search.specs.SearchProgress.{IsSearching, next_bound, next_list, next_node, opening_of}
 use Rattle.tp_search.specs.Stored.{is_stop, list_by}
 use Rattle.tp_search.specs.Stores.{StoreValue}
 use Rattle.tp_search.specs.declared.goals.OpenGoal.{OpenGoal}
-use Rattle.tp_search.specs.declared.taking.Next.{Next}
-use Rattle.tp_search.specs.declared.taking.Next.TheVariants.{Goal, Node}
+use Rattle.tp_search.specs.declared.next_list.Next.{Next}
+use Rattle.tp_search.specs.declared.next_list.Next.TheVariants.{Goal, Node}
 use Rattle.tp_search.proofs.SearchNext.{IsKnownNext}
 
 -- an open list that is not complete is not stopped

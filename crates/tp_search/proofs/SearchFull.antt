@@ -8,20 +8,20 @@ use Rattle.tp_pool.specs.Entries.{Entry}
 use Rattle.tp_schedule.specs.Answers.{IsAsked}
 use Rattle.tp_schedule.specs.Choices.{ChoiceList, IsBound, IsChild, IsComplete, IsOpen, OpensTo}
 use Rattle.tp_schedule.specs.Legality.{IsLegal}
-use Rattle.tp_schedule.specs.Spending.{IsSpent, IsStoredOrEmpty}
+use Rattle.tp_schedule.specs.SpentBudget.{IsSpent, IsStoredOrEmpty}
 use Rattle.tp_schedule.specs.declared.parts.Ask.{Ask}
 use Rattle.tp_schedule.specs.declared.parts.Plan.{Plan}
 use Rattle.tp_schedule.proofs.Membership.{Contains-cons_cases, Contains-later, Contains-map_from}
 use Rattle.tp_schedule.proofs.Pairs.{AllPairs-map}
 use Rattle.tp_search.specs.Limits.{HasNoLimit, IsLimitKept}
-use Rattle.tp_search.specs.Opening.{IsAtProgress, IsSameOpening}
-use Rattle.tp_search.specs.Opening.Progress.{up_to}
-use Rattle.tp_search.specs.Searching.{IsBestLater, IsNext, IsOpenEntry, IsSearching, next_bound, next_list, opening_of, waiting_in}
+use Rattle.tp_search.specs.OpenedLists.{IsAtProgress, IsSameOpening}
+use Rattle.tp_search.specs.OpenedLists.Progress.{up_to}
+use Rattle.tp_search.specs.SearchProgress.{IsBestLater, IsNext, IsOpenEntry, IsSearching, next_bound, next_list, opening_of, waiting_in}
 use Rattle.tp_search.specs.Stored.{list_by, lists_by}
 use Rattle.tp_search.specs.Stores.{StoreValue}
 use Rattle.tp_search.specs.declared.goals.OpenGoal.{OpenGoal}
 use Rattle.tp_search.specs.declared.opening.Opening.{Opening}
-use Rattle.tp_search.specs.declared.taking.Next.{Next}
+use Rattle.tp_search.specs.declared.next_list.Next.{Next}
 use Rattle.tp_search.proofs.LimitFacts.{none-before, searched-whole}
 use Rattle.tp_search.proofs.SearchEnds.{complete-later, next-below}
 use Rattle.tp_search.proofs.SearchNext.{IsKnownNext, next-known, node-stored, waiting-cases}

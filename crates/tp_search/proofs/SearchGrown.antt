@@ -6,7 +6,7 @@ use Rattle.tp_machine.specs.declared.machine.Machine.{Machine}
 use Rattle.tp_pool.specs.Entries.{Entry, entry_at}
 use Rattle.tp_schedule.specs.Choices.{ChoiceList}
 use Rattle.tp_schedule.proofs.Membership.{Contains-map, Contains-map_from}
-use Rattle.tp_search.specs.Searching.{list_at, waiting_in}
+use Rattle.tp_search.specs.SearchProgress.{list_at, waiting_in}
 use Rattle.tp_search.specs.Stored.{list_by, lists_by}
 use Rattle.tp_search.specs.Stores.{StoreGrows, StoreValue}
 use Rattle.tp_search.specs.declared.goals.OpenGoal.{OpenGoal}

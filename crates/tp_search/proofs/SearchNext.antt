@@ -6,19 +6,19 @@ use Rattle.tp_machine.specs.declared.machine.Machine.{Machine}
 use Rattle.tp_pool.specs.Entries.{Entry, IsParentOf, choices_before, choices_of, entry_at}
 use Rattle.tp_pool.specs.declared.choice.Choice.{Choice as Stored}
 use Rattle.tp_schedule.specs.Choices.{ChoiceList, IsBound}
-use Rattle.tp_schedule.specs.Spending.{IsStoredOrEmpty}
+use Rattle.tp_schedule.specs.SpentBudget.{IsStoredOrEmpty}
 use Rattle.tp_schedule.specs.declared.parts.Ask.{Ask}
 use Rattle.tp_schedule.specs.declared.parts.Plan.{Plan}
 use Rattle.tp_schedule.proofs.Membership.{Contains-cons_cases, Contains-here, Contains-later, Contains-map, Contains-map_from}
 use Rattle.tp_schedule.proofs.Pairs.{AllPairs-cons, AllPairs-head, AllPairs-tail}
 use Rattle.tp_choices.proofs.Lists.{AllPairs-across, AllPairs-append_right}
-use Rattle.tp_search.specs.Following.{HaveGoal, IsStoredList}
-use Rattle.tp_search.specs.Searching.{IsGoalTaken, IsNext, IsOpenEntry, IsSearching, list_at, list_of_goal, next_bound, next_list, next_node, waiting_in}
+use Rattle.tp_search.specs.StoredLists.{HaveGoal, IsStoredList}
+use Rattle.tp_search.specs.SearchProgress.{IsGoalTaken, IsNext, IsOpenEntry, IsSearching, list_at, list_of_goal, next_bound, next_list, next_node, waiting_in}
 use Rattle.tp_search.specs.Stored.{choices_by, list_by, lists_by}
 use Rattle.tp_search.specs.Stores.{IsTaken, StoreValue}
 use Rattle.tp_search.specs.declared.goals.OpenGoal.{OpenGoal}
-use Rattle.tp_search.specs.declared.taking.Next.{Next}
-use Rattle.tp_search.specs.declared.taking.Next.TheVariants.{Goal, Node}
+use Rattle.tp_search.specs.declared.next_list.Next.{Next}
+use Rattle.tp_search.specs.declared.next_list.Next.TheVariants.{Goal, Node}
 
 -- without one of the elements
 pub All-without : {X : Type 0} (P : X → Type 0) (before : List X) (x : X) (after : List X) → All P (before ++ x ∷ after) → All P (before ++ after)

@@ -3,21 +3,21 @@ use Rattle.std.proofs.Common.{◌≡◌, ◌⊎◌, inl, inr, ℕ, ◌<◌, ◌�
 use Rattle.tp_machine.specs.declared.machine.Machine.{Machine}
 use Rattle.tp_pool.specs.Entries.{Entry, bound_of, entry_at}
 use Rattle.tp_schedule.specs.Choices.{ChoiceList, IsChild, IsComplete}
-use Rattle.tp_schedule.specs.Spending.{IsStoredOrEmpty}
+use Rattle.tp_schedule.specs.SpentBudget.{IsStoredOrEmpty}
 use Rattle.tp_schedule.specs.declared.parts.Ask.{Ask}
 use Rattle.tp_schedule.specs.declared.parts.Plan.{Plan}
 use Rattle.tp_schedule.proofs.Membership.{Contains-cons_cases, Contains-here, Contains-later}
 use Rattle.tp_choices.specs.Parents.{ParentBound}
 use Rattle.tp_choices.specs.Searches.{IsKnown}
 use Rattle.tp_search.specs.Limits.{IsLimitKept, IsSearchedTo, OpensWithin}
-use Rattle.tp_search.specs.Opening.{IsAtProgress, IsSameOpening}
-use Rattle.tp_search.specs.Opening.Progress.{up_to}
-use Rattle.tp_search.specs.Searching.{IsNext, IsSearching, next_bound, next_list, opening_of, waiting_in}
+use Rattle.tp_search.specs.OpenedLists.{IsAtProgress, IsSameOpening}
+use Rattle.tp_search.specs.OpenedLists.Progress.{up_to}
+use Rattle.tp_search.specs.SearchProgress.{IsNext, IsSearching, next_bound, next_list, opening_of, waiting_in}
 use Rattle.tp_search.specs.Stored.{list_by, lists_by}
 use Rattle.tp_search.specs.Stores.{HasBounds, StoreGrows, StoreValue}
 use Rattle.tp_search.specs.declared.goals.OpenGoal.{OpenGoal}
 use Rattle.tp_search.specs.declared.opening.Opening.{Opening}
-use Rattle.tp_search.specs.declared.taking.Next.{Next}
+use Rattle.tp_search.specs.declared.next_list.Next.{Next}
 use Rattle.tp_search.proofs.LimitFacts.{within-before}
 use Rattle.tp_search.proofs.SearchGrown.{entry-new, entry-stays, grown-come, grown-known, grown-only, grown-stay}
 use Rattle.tp_search.proofs.SearchNext.{IsKnownNext, next-known}

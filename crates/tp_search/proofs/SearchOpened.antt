@@ -7,21 +7,21 @@ use Rattle.tp_machine.specs.declared.machine.Machine.{Machine}
 use Rattle.tp_pool.specs.Entries.{Entry, choices_before}
 use Rattle.tp_pool.specs.declared.choice.Choice.{Choice as Stored}
 use Rattle.tp_schedule.specs.Choices.{ChoiceList, IsBound, IsChild, IsComplete, OpensTo}
-use Rattle.tp_schedule.specs.Spending.{IsStoredOrEmpty}
+use Rattle.tp_schedule.specs.SpentBudget.{IsStoredOrEmpty}
 use Rattle.tp_schedule.specs.declared.parts.Ask.{Ask}
 use Rattle.tp_schedule.specs.declared.parts.Plan.{Plan}
 use Rattle.tp_schedule.proofs.Membership.{All-from_contains, Contains-cons_cases, Contains-here, Contains-later, Contains-map_from}
 use Rattle.tp_constraints.proofs.Lists.{AllPairs-append}
-use Rattle.tp_search.specs.Following.{HaveGoal, IsStoredList}
+use Rattle.tp_search.specs.StoredLists.{HaveGoal, IsStoredList}
 use Rattle.tp_search.specs.Limits.{OpensWithin}
-use Rattle.tp_search.specs.Opening.{IsAtProgress, IsOpenChild, IsOpening, IsSameOpening, Progress, parent_of}
-use Rattle.tp_search.specs.Opening.Progress.{up_to}
-use Rattle.tp_search.specs.Searching.{IsOpenEntry, IsSearching, next_bound, next_list, next_node, opening_of}
+use Rattle.tp_search.specs.OpenedLists.{IsAtProgress, IsOpenChild, IsOpening, IsSameOpening, Progress, parent_of}
+use Rattle.tp_search.specs.OpenedLists.Progress.{up_to}
+use Rattle.tp_search.specs.SearchProgress.{IsOpenEntry, IsSearching, next_bound, next_list, next_node, opening_of}
 use Rattle.tp_search.specs.Stored.{list_by, lists_by}
 use Rattle.tp_search.specs.Stores.{StoreValue}
 use Rattle.tp_search.specs.declared.goals.OpenGoal.{OpenGoal}
 use Rattle.tp_search.specs.declared.opening.Opening.{Opening}
-use Rattle.tp_search.specs.declared.taking.Next.{Next}
+use Rattle.tp_search.specs.declared.next_list.Next.{Next}
 use Rattle.tp_search.proofs.OpeningSame.{before-same, stored-same}
 use Rattle.tp_search.proofs.PlaceSteps.{parent-same}
 use Rattle.tp_search.proofs.SearchFresh.{next-all_acts, next-fresh, next-going, next-no_child}

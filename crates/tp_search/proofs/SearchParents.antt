@@ -7,8 +7,8 @@ use Rattle.tp_schedule.specs.declared.parts.Ask.{Ask}
 use Rattle.tp_schedule.specs.declared.parts.Origin.{Origin}
 use Rattle.tp_schedule.specs.declared.parts.Origin.TheVariants.{Feeder as FromFeeder, Front as FromFront}
 use Rattle.tp_schedule.specs.declared.parts.Plan.{Plan}
-use Rattle.tp_search.specs.Opening.{IsLooked}
-use Rattle.tp_search.specs.Opening.Progress.{up_to}
+use Rattle.tp_search.specs.OpenedLists.{IsLooked}
+use Rattle.tp_search.specs.OpenedLists.Progress.{up_to}
 use Rattle.tp_search.proofs.ChildFacts.{child-form}
 use Rattle.tp_search.proofs.FollowSteps.{act_within}
 

@@ -7,7 +7,7 @@ use Rattle.tp_bounds.specs.declared.tree.BoundTree.{BoundTree}
 use Rattle.tp_machine.specs.declared.machine.Machine.{Machine}
 use Rattle.tp_machine.proofs.MachineFacts.{is_machine}
 use Rattle.tp_schedule.specs.Answers.{IsAlternative, IsAsked, NoneBefore, kept_of}
-use Rattle.tp_schedule.specs.Living.{is_live}
+use Rattle.tp_schedule.specs.LivePlans.{is_live}
 use Rattle.tp_schedule.specs.Plans.{AreNamed, end_of_plan, is_same_copy}
 use Rattle.tp_schedule.specs.declared.parts.Ask.{Ask}
 use Rattle.tp_schedule.specs.declared.parts.Plan.{Plan}
@@ -15,16 +15,16 @@ use Rattle.tp_schedule.proofs.CopyFacts.{same_copy-is}
 use Rattle.tp_schedule.proofs.Membership.{Contains-filter_from}
 use Rattle.tp_choices.proofs.AnswerOpens.{answer_opens}
 use Rattle.tp_placing.specs.Boards.{BoardValue}
-use Rattle.tp_placing.specs.Standing.{AreFewSteps, StandsOn}
-use Rattle.tp_placing.specs.Writing.{IsLoadedFrom}
+use Rattle.tp_placing.specs.LoadedBoard.{AreFewSteps, StandsOn}
+use Rattle.tp_placing.specs.Commits.{IsLoadedFrom}
 use Rattle.tp_placing.proofs.WriteLive.{gone, gone-of, put-of, stays}
 use Rattle.tp_placing.proofs.WriteWhole.{filter-agree}
-use Rattle.tp_showing.specs.Showing as Shown
-use Rattle.tp_trees.specs.Claims.{live_part}
-use Rattle.tp_trees.specs.Short.{HasFewHops, IsShortTreeFor}
-use Rattle.tp_trees.specs.Trees.{IsBoundTree}
-use Rattle.tp_trees.specs.declared.claim.Claim.TheVariants.{Earliest, Never}
-use Rattle.tp_ways.specs.Ends.{EndsBy}
+use Rattle.tp_bound_make.specs.TreeProgress as Shown
+use Rattle.tp_bound_laws.specs.Claims.{live_part}
+use Rattle.tp_bound_laws.specs.Short.{HasFewHops, IsShortTreeFor}
+use Rattle.tp_bound_laws.specs.Trees.{IsBoundTree}
+use Rattle.tp_bound_laws.specs.declared.claim.Claim.TheVariants.{Earliest, Never}
+use Rattle.tp_constraints.specs.Ends.{EndsBy}
 use Rattle.tp_search.specs.Boards.{IsBack, IsReady}
 use Rattle.tp_search.proofs.AnswerFacts.{known-goal}
 use Rattle.tp_search.proofs.TrialFacts.{whole-answer}

@@ -8,7 +8,7 @@ use Rattle.tp_schedule.specs.Legality.{IsLegal}
 use Rattle.tp_schedule.specs.declared.parts.Ask.{Ask}
 use Rattle.tp_placing.specs.Boards.{BoardValue}
 use Rattle.tp_placing.specs.Laws.{MarkKeeps}
-use Rattle.tp_placing.specs.Standing.{Stands}
+use Rattle.tp_placing.specs.LoadedBoard.{Stands}
 use Rattle.tp_search.specs.Boards.{IsReady}
 use Rattle.tp_search.proofs.BoardSteps.{IsMarked, load-of, suffix-back}
 

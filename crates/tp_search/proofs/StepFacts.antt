@@ -9,32 +9,32 @@ use Rattle.tp_machine.specs.declared.machine.Machine.{Machine}
 use Rattle.tp_pool.specs.Entries.{IsParentOf, bound_of, choices_before, choices_of, entry_at}
 use Rattle.tp_schedule.specs.Answers.{IsAsked, NoneBefore}
 use Rattle.tp_schedule.specs.Choices.{IsBound, IsComplete}
-use Rattle.tp_schedule.specs.Planning.{IsKnownGoal}
+use Rattle.tp_schedule.specs.PlannerAnswers.{IsKnownGoal}
 use Rattle.tp_schedule.specs.Legality.{IsLegal}
-use Rattle.tp_schedule.specs.Spending.{IsSpent}
+use Rattle.tp_schedule.specs.SpentBudget.{IsSpent}
 use Rattle.tp_schedule.specs.declared.parts.Ask.{Ask}
 use Rattle.tp_schedule.specs.declared.parts.Plan.{Plan}
-use Rattle.tp_choices.proofs.Leaving.{parent_bound}
-use Rattle.tp_choices.proofs.Searching.{full_spends}
+use Rattle.tp_choices.proofs.ShorterLists.{parent_bound}
+use Rattle.tp_choices.proofs.SearchAncestors.{full_spends}
 use Rattle.tp_placing.specs.Boards.{BoardValue}
 use Rattle.tp_search.specs.Boards.{IsBack}
-use Rattle.tp_search.specs.Following.{HasList}
-use Rattle.tp_search.specs.Holding.{HoldsList, IsOneMore}
+use Rattle.tp_search.specs.StoredLists.{HasList}
+use Rattle.tp_search.specs.HeldLists.{HoldsList, IsOneMore}
 use Rattle.tp_search.specs.Limits.{HasNoLimit}
-use Rattle.tp_search.specs.Opening.{IsAtProgress, IsFresh, IsOpenChild, IsOpening, IsSameOpening, parent_of}
-use Rattle.tp_search.specs.Opening.Progress.{nothing, up_to}
+use Rattle.tp_search.specs.OpenedLists.{IsAtProgress, IsFresh, IsOpenChild, IsOpening, IsSameOpening, parent_of}
+use Rattle.tp_search.specs.OpenedLists.Progress.{nothing, up_to}
 use Rattle.tp_search.specs.Outcomes.{CanLay, CanOpen, IsAllOpened, IsOutcome}
-use Rattle.tp_search.specs.Searching.{IsBestLater, IsNext, IsSameSpace, IsSearching, next_bound, next_list, next_node, opening_of, still_to_take}
+use Rattle.tp_search.specs.SearchProgress.{IsBestLater, IsNext, IsSameSpace, IsSearching, next_bound, next_list, next_node, opening_of, still_to_take}
 use Rattle.tp_search.specs.Stores.{HasBounds, StoreGrows, StoreValue}
 use Rattle.tp_search.specs.declared.goals.OpenGoal.{OpenGoal}
-use Rattle.tp_search.specs.declared.holding.HeldList.{HeldList}
+use Rattle.tp_search.specs.declared.held_list.HeldList.{HeldList}
 use Rattle.tp_search.specs.declared.opening.Opening.{Opening}
-use Rattle.tp_search.specs.declared.searching.Outcome.{Outcome}
-use Rattle.tp_search.specs.declared.searching.Outcome.TheVariants.{Again, Spent}
+use Rattle.tp_search.specs.declared.best_first.Outcome.{Outcome}
+use Rattle.tp_search.specs.declared.best_first.Outcome.TheVariants.{Again, Spent}
 use Rattle.tp_search.specs.declared.store.Limit.{Limit}
 use Rattle.tp_search.specs.declared.store.Limit.TheVariants.{By, Sought, Unsought}
-use Rattle.tp_search.specs.declared.taking.Next.{Next}
-use Rattle.tp_search.specs.declared.taking.Next.TheVariants.{Goal, Node}
+use Rattle.tp_search.specs.declared.next_list.Next.{Next}
+use Rattle.tp_search.specs.declared.next_list.Next.TheVariants.{Goal, Node}
 use Rattle.tp_search.proofs.SearchEnds.{IsBestList, next-incomplete, next-none_before, next-within, searching-best}
 use Rattle.tp_search.proofs.SearchFresh.{next-begins, next-fresh, next-going}
 use Rattle.tp_search.proofs.SearchGrown.{entry-new}

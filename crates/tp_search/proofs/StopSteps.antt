@@ -17,27 +17,27 @@ use Rattle.tp_schedule.specs.declared.parts.Plan.{Plan}
 use Rattle.tp_constraints.specs.Suffixes.{SuffixTimes, with_stop}
 use Rattle.tp_placing.specs.Boards.{BoardValue, suffix_of}
 use Rattle.tp_placing.specs.Calls.{HasNoTimes, IsSameLoad}
-use Rattle.tp_placing.specs.Standing.{Stands}
+use Rattle.tp_placing.specs.LoadedBoard.{Stands}
 use Rattle.tp_placing.specs.Ticks.{HasLeastTick, IsLeastTick, TimesOf}
 use Rattle.tp_placing.proofs.StandFacts.{and-some}
 use Rattle.tp_search.specs.Boards.{IsFurther, IsLaid}
 use Rattle.tp_search.specs.Children.{HasFound}
-use Rattle.tp_search.specs.Following.{IsWayTo}
-use Rattle.tp_search.specs.Opening.{IsAhead, IsAtProgress, IsFresh, IsLooked, parent_of}
-use Rattle.tp_search.specs.Opening.Progress.{nothing, up_to}
+use Rattle.tp_search.specs.StoredLists.{IsWayTo}
+use Rattle.tp_search.specs.OpenedLists.{IsAhead, IsAtProgress, IsFresh, IsLooked, parent_of}
+use Rattle.tp_search.specs.OpenedLists.Progress.{nothing, up_to}
 use Rattle.tp_search.specs.Stored.{child_by, choices_by}
 use Rattle.tp_search.specs.Stores.{HasBounds, IsInRange, StoreValue, after_keep}
-use Rattle.tp_ways.specs.Ways.{IsPlaced, IsWay}
+use Rattle.tp_constraints.specs.Ways.{IsPlaced, IsWay}
 use Rattle.tp_search.specs.declared.opening.Opening.{Opening}
 use Rattle.tp_search.proofs.BoardSteps.{TheWay, the-way}
 use Rattle.tp_search.proofs.ChildBoards.{bound-range}
 use Rattle.tp_search.proofs.ChildFacts.{child-form, child_by-stop}
 use Rattle.tp_search.proofs.OpeningFacts.{opening-on, opening-stop}
 use Rattle.tp_search.proofs.ProgressFacts.{tried-none}
-use Rattle.tp_ways.proofs.WayChildren.{stop-late}
-use Rattle.tp_ways.proofs.WayLists.{first-only, way-walk}
+use Rattle.tp_constraints.proofs.WayChildren.{stop-late}
+use Rattle.tp_constraints.proofs.WayLists.{first-only, way-walk}
 use Rattle.tp_search.proofs.WayBounds.{way-bound}
-use Rattle.tp_ways.proofs.WaySteps.{stop-way}
+use Rattle.tp_constraints.proofs.WaySteps.{stop-way}
 
 -- a stopped child may stop
 stopped-can : {machine : Machine} {ask : Ask} {p l : ChoiceList} → IsChild machine ask p l → IsTrue l.stopped → CanStop machine ask p ask.origin

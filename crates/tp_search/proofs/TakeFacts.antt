@@ -5,10 +5,10 @@ use Rattle.std.proofs.lemmas.List.{drop_more, take-append-drop}
 use Rattle.std.proofs.lemmas.Option.{slice_get_read}
 use Rattle.std.proofs.lemmas.List.Elements.{All-append, All-drop, All-nil, All-take, All-weaker}
 use Rattle.tp_pool.specs.Entries.{bound_of}
-use Rattle.tp_search.specs.Searching.{IsNext}
+use Rattle.tp_search.specs.SearchProgress.{IsNext}
 use Rattle.tp_search.specs.Stores.{HasSooner, IsTaken, StoreValue}
 use Rattle.tp_search.specs.declared.goals.OpenGoal.{OpenGoal}
-use Rattle.tp_search.specs.declared.taking.Next.TheVariants.{Goal, Node}
+use Rattle.tp_search.specs.declared.next_list.Next.TheVariants.{Goal, Node}
 
 -- a goal of least bound is next, where no stored list with a smaller one waits
 pub goal-next : (goals : List OpenGoal) (s s' : StoreValue) (place : ℕ) (g : OpenGoal) (goals' : List OpenGoal) → place < length goals → g ≡ get_or goals place g → All (λ x. g.bound ≤ x.bound) goals

@@ -7,8 +7,8 @@ use Rattle.tp_machine.specs.declared.machine.Machine.{Machine}
 use Rattle.tp_schedule.specs.Answers.{IsAlternative, NoneBefore}
 use Rattle.tp_schedule.specs.Choices.{ChoiceList, IsBound, IsComplete, IsCompleteFrom, OpensTo}
 use Rattle.tp_schedule.specs.Completions.{answered}
-use Rattle.tp_schedule.specs.Living.{is_live}
-use Rattle.tp_schedule.specs.Planning.{CanAsk}
+use Rattle.tp_schedule.specs.LivePlans.{is_live}
+use Rattle.tp_schedule.specs.PlannerAnswers.{CanAsk}
 use Rattle.tp_schedule.specs.Plans.{end_of_plan}
 use Rattle.tp_schedule.specs.Routes.{least_sum, walk}
 use Rattle.tp_schedule.specs.Spots.Spot.{own}
@@ -23,14 +23,14 @@ use Rattle.tp_choices.proofs.ShiftedLists.{acts-shifted}
 use Rattle.tp_placing.specs.Boards.{BoardValue, suffix_of}
 use Rattle.tp_placing.specs.Laws.{UndoKeeps}
 use Rattle.tp_placing.specs.Ticks.{HasLeastTick, IsLeastTick, TimesOf}
-use Rattle.tp_placing.specs.Writing.{CanCommit}
+use Rattle.tp_placing.specs.Commits.{CanCommit}
 use Rattle.tp_placing.proofs.WriteLive.{gone, may-ask, may-forget, put-of}
 use Rattle.tp_search.specs.Boards.{IsAtRest, IsBack, IsReady}
 use Rattle.tp_search.specs.Outcomes.{HasAnswer}
-use Rattle.tp_schedule.specs.Planning.{IsKnownGoal}
+use Rattle.tp_schedule.specs.PlannerAnswers.{IsKnownGoal}
 use Rattle.tp_search.specs.Trials.{EndsEarliest, IsEarliestTo, IsTrial, board_in}
 use Rattle.tp_search.specs.declared.trial.Trial.{Trial}
-use Rattle.tp_ways.proofs.WayAnswers.{complete-some}
+use Rattle.tp_constraints.proofs.WayAnswers.{complete-some}
 use Rattle.tp_search.proofs.AnswerFacts.{answer-commits, answer-ends, none_before-whole, rest}
 use Rattle.tp_search.proofs.BoardSteps.{IsUndone, undone-back}
 

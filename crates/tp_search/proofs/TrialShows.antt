@@ -4,7 +4,7 @@ use Rattle.std.proofs.lemmas.List.Folds.{fold-map}
 use Rattle.std.proofs.lemmas.Option.{same_Some}
 use Rattle.tp_base.specs.Readings.{Reading}
 use Rattle.tp_machine.specs.Machines.{IsMachine}
-use Rattle.tp_machine.specs.Using.{action_at}
+use Rattle.tp_machine.specs.ModuleUse.{action_at}
 use Rattle.tp_machine.specs.declared.parts.Action.{Action}
 use Rattle.tp_machine.specs.declared.machine.Machine.{Machine}
 use Rattle.tp_schedule.specs.Answers.{NoneBefore}
@@ -16,12 +16,12 @@ use Rattle.tp_schedule.specs.declared.parts.Plan.{Plan}
 use Rattle.tp_constraints.specs.Suffixes.{Suffix, SuffixTimes}
 use Rattle.tp_placing.specs.Boards.{BoardValue, after_change, suffix_of}
 use Rattle.tp_placing.specs.Ticks.{HasLeastTick, IsLeastTick, TimesOf}
-use Rattle.tp_placing.specs.Writing.{CanCommit}
+use Rattle.tp_placing.specs.Commits.{CanCommit}
 use Rattle.tp_placing.specs.declared.parts.Step.{Step}
 use Rattle.tp_placing.proofs.StandFacts.{some-and}
 use Rattle.tp_search.specs.Again.{CanLayAgain, suffix_by}
 use Rattle.tp_search.specs.Boards.{IsReady}
-use Rattle.tp_search.specs.Holding.{IsLaidSince}
+use Rattle.tp_search.specs.HeldLists.{IsLaidSince}
 use Rattle.tp_search.specs.Trials.{IsTrial, board_in}
 use Rattle.tp_search.specs.declared.trial.Trial.{Trial}
 

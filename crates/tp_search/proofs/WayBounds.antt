@@ -2,7 +2,7 @@
 use Rattle.std.proofs.Common.{subst, arith}
 use Rattle.tp_schedule.specs.Choices.{OpensTo}
 use Rattle.tp_constraints.specs.Suffixes.{list_of}
-use Rattle.tp_ways.proofs.WayLists.{opened-times, way-list, way-opens_to}
+use Rattle.tp_constraints.proofs.WayLists.{opened-times, way-list, way-opens_to}
 use Rattle.tp_search.specs.WayLaws.{WayBound, WayCommit}
 
 pub way-bound : WayBound

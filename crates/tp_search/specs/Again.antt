@@ -10,13 +10,13 @@ use Rattle.tp_schedule.specs.declared.parts.Ask.{Ask}
 use Rattle.tp_schedule.specs.declared.parts.Plan.{Plan}
 use Rattle.tp_constraints.specs.Suffixes.{HavePlacesSoFar, Suffix, SuffixTimes}
 use Rattle.tp_placing.specs.Boards.{BoardValue, after_change, suffix_of}
-use Rattle.tp_placing.specs.Standing.{Stands}
-use Rattle.tp_placing.specs.Writing.{CanCommit}
+use Rattle.tp_placing.specs.LoadedBoard.{Stands}
+use Rattle.tp_placing.specs.Commits.{CanCommit}
 use Rattle.tp_placing.specs.declared.parts.Change.{Change}
 use Rattle.tp_placing.specs.declared.parts.Change.TheVariants.{Action, Goal as Open, Place, Stop}
-use Rattle.tp_search.specs.Following.{IsSameButSteps}
-use Rattle.tp_search.specs.declared.again.Reached.{Reached}
-use Rattle.tp_search.specs.declared.again.Reached.TheVariants.{Goal, Holds, Nothing}
+use Rattle.tp_search.specs.StoredLists.{IsSameButSteps}
+use Rattle.tp_search.specs.declared.replay.Reached.{Reached}
+use Rattle.tp_search.specs.declared.replay.Reached.TheVariants.{Goal, Holds, Nothing}
 
 -- what changes make of an empty board
 abbrev pub suffix_by : List Change → Option Suffix

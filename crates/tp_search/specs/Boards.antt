@@ -9,8 +9,8 @@ use Rattle.tp_schedule.specs.declared.parts.Plan.{Plan}
 use Rattle.tp_constraints.specs.Suffixes.{Suffix}
 use Rattle.tp_placing.specs.Boards.{BoardContent, BoardValue, content_of, past_of, suffix_of}
 use Rattle.tp_placing.specs.Calls.{IsSameLoad}
-use Rattle.tp_placing.specs.Standing.{Stands}
-use Rattle.tp_ways.specs.Ways.{IsWay}
+use Rattle.tp_placing.specs.LoadedBoard.{Stands}
+use Rattle.tp_constraints.specs.Ways.{IsWay}
 
 -- the suffix is a way that is not stopped, of these choices
 pub record IsWayOf (machine : Machine) (plans : List Plan) (ask : Ask) (goal first : State) (choices : List Choice) (x : Suffix) : Type 0 where

@@ -1,22 +1,22 @@
 -- Opening a list on a board: what the board carries, and the child that is tried.
 use Rattle.std.specs.Prelude.{◌≡◌, ℕ, ◌<◌, ◌≤◌, ◌↔◌, length, Some, IsTrue}
 use Rattle.tp_base.specs.Readings.{Reading}
-use Rattle.tp_machine.specs.Using.{action_at}
+use Rattle.tp_machine.specs.ModuleUse.{action_at}
 use Rattle.tp_machine.specs.declared.parts.State.{State}
 use Rattle.tp_machine.specs.declared.machine.Machine.{Machine}
 use Rattle.tp_pool.specs.Entries.{choices_before}
 use Rattle.tp_schedule.specs.Choices.{ChoiceList, IsBound, IsComplete}
-use Rattle.tp_schedule.specs.Holding.{holds_of_act}
+use Rattle.tp_schedule.specs.Holders.{holds_of_act}
 use Rattle.tp_schedule.specs.Routes.{IsStart}
 use Rattle.tp_schedule.specs.declared.parts.Ask.{Ask}
 use Rattle.tp_schedule.specs.declared.parts.Origin.TheVariants.{Feeder}
 use Rattle.tp_placing.specs.Boards.{BoardValue}
 use Rattle.tp_search.specs.Boards.{IsFurther, IsLaid}
-use Rattle.tp_search.specs.Following.{HasList}
-use Rattle.tp_search.specs.Opening.{IsFresh}
+use Rattle.tp_search.specs.StoredLists.{HasList}
+use Rattle.tp_search.specs.OpenedLists.{IsFresh}
 use Rattle.tp_search.specs.Stored.{choices_by}
 use Rattle.tp_search.specs.Stores.{HasBounds, StoreValue}
-use Rattle.tp_ways.specs.Ways.{IsPlaced}
+use Rattle.tp_constraints.specs.Ways.{IsPlaced}
 use Rattle.tp_search.specs.declared.children.Child.{Child}
 use Rattle.tp_search.specs.declared.opening.Opening.{Opening}
 

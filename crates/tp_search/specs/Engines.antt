@@ -4,19 +4,19 @@ use Rattle.std.specs.Bool.{MatchBool}
 use Rattle.tp_base.specs.Readings.{Reading}
 use Rattle.tp_bounds.specs.declared.tree.BoundTree.{BoundTree}
 use Rattle.tp_machine.specs.declared.machine.Machine.{Machine}
-use Rattle.tp_schedule.specs.Planning.{Deed}
-use Rattle.tp_schedule.specs.Planning.Deed.{replied, settled}
+use Rattle.tp_schedule.specs.PlannerAnswers.{Deed}
+use Rattle.tp_schedule.specs.PlannerAnswers.Deed.{replied, settled}
 use Rattle.tp_schedule.specs.Plans.{end_of_plan, plan_of}
-use Rattle.tp_schedule.specs.Spending.{FewListsOpen}
+use Rattle.tp_schedule.specs.SpentBudget.{FewListsOpen}
 use Rattle.tp_schedule.specs.declared.parts.Ask.{Ask}
 use Rattle.tp_schedule.specs.declared.parts.Plan.{Plan}
 use Rattle.tp_schedule.specs.declared.parts.Reply.{Reply}
 use Rattle.tp_schedule.specs.declared.parts.Reply.TheVariants.{Never, Planned, Spent}
-use Rattle.tp_trees.specs.Short.{IsShortTreeFor}
-use Rattle.tp_trees.specs.declared.claim.Claim.TheVariants.{Earliest, Never as NeverClaim}
+use Rattle.tp_bound_laws.specs.Short.{IsShortTreeFor}
+use Rattle.tp_bound_laws.specs.declared.claim.Claim.TheVariants.{Earliest, Never as NeverClaim}
 use Rattle.tp_placing.specs.Inside.{most_steps}
 use Rattle.tp_placing.specs.Boards.{BoardValue}
-use Rattle.tp_placing.specs.Following.{HoldsOthers}
+use Rattle.tp_placing.specs.KeptBoard.{HoldsOthers}
 use Rattle.tp_routes.specs.Tables.{KeepsRooms}
 use Rattle.tp_search.specs.Boards.{IsAtRest}
 use Rattle.tp_search.specs.Workspaces.{IsFor, WorkspaceValue, numbers_of}

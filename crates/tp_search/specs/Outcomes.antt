@@ -6,21 +6,21 @@ use Rattle.tp_machine.specs.declared.machine.Machine.{Machine}
 use Rattle.tp_pool.specs.Entries.{choices_of}
 use Rattle.tp_schedule.specs.Answers.{IsAlternative, NoneBefore}
 use Rattle.tp_schedule.specs.Choices.{ChoiceList, IsBound, IsComplete, IsOpen}
-use Rattle.tp_schedule.specs.Spending.{FewListsOpen, IsSpent}
+use Rattle.tp_schedule.specs.SpentBudget.{FewListsOpen, IsSpent}
 use Rattle.tp_schedule.specs.declared.parts.Ask.{Ask}
 use Rattle.tp_schedule.specs.declared.parts.Plan.{Plan}
 use Rattle.tp_placing.specs.Boards.{BoardContent, BoardValue, content_of, past_of}
 use Rattle.tp_placing.specs.Calls.{IsSameLoad}
 use Rattle.tp_search.specs.Boards.{IsBack}
-use Rattle.tp_search.specs.Following.{HasList, IsStoredList}
-use Rattle.tp_search.specs.Opening.{IsAtProgress, IsFresh, parent_of}
-use Rattle.tp_search.specs.Opening.Progress.{nothing, up_to}
-use Rattle.tp_search.specs.Searching.{list_at, list_of_goal, next_list, next_node, opening_of}
+use Rattle.tp_search.specs.StoredLists.{HasList, IsStoredList}
+use Rattle.tp_search.specs.OpenedLists.{IsAtProgress, IsFresh, parent_of}
+use Rattle.tp_search.specs.OpenedLists.Progress.{nothing, up_to}
+use Rattle.tp_search.specs.SearchProgress.{list_at, list_of_goal, next_list, next_node, opening_of}
 use Rattle.tp_search.specs.Stores.{HasBounds, StoreGrows, StoreValue}
-use Rattle.tp_search.specs.declared.searching.Outcome.{Outcome}
-use Rattle.tp_search.specs.declared.searching.Outcome.TheVariants.{Again, Found, Never, Spent}
-use Rattle.tp_search.specs.declared.taking.Next.{Next}
-use Rattle.tp_search.specs.declared.taking.Next.TheVariants.{Goal, Node}
+use Rattle.tp_search.specs.declared.best_first.Outcome.{Outcome}
+use Rattle.tp_search.specs.declared.best_first.Outcome.TheVariants.{Again, Found, Never, Spent}
+use Rattle.tp_search.specs.declared.next_list.Next.{Next}
+use Rattle.tp_search.specs.declared.next_list.Next.TheVariants.{Goal, Node}
 
 module _ (machine : Machine) (plans : List Plan) (ask : Ask) where
   -- the list that was taken can be laid on a board: it is open, and a node's choices are those of a stored list

@@ -5,15 +5,15 @@ use Rattle.tp_base.specs.Readings.{Reading}
 use Rattle.tp_machine.specs.declared.machine.Machine.{Machine}
 use Rattle.tp_schedule.specs.Answers.{IsAlternative, IsEarliest, NoneBefore}
 use Rattle.tp_schedule.specs.Plans.{end_of_plan}
-use Rattle.tp_schedule.specs.Spending.{FewListsOpen, IsSpent}
+use Rattle.tp_schedule.specs.SpentBudget.{FewListsOpen, IsSpent}
 use Rattle.tp_schedule.specs.Spots.Spot.{own}
 use Rattle.tp_schedule.specs.declared.parts.Ask.{Ask}
 use Rattle.tp_schedule.specs.declared.parts.Plan.{Plan}
 use Rattle.tp_placing.specs.Boards.{BoardContent, BoardValue, content_of, past_of, suffix_of}
 use Rattle.tp_placing.specs.Calls.{IsSameLoad}
-use Rattle.tp_placing.specs.Standing.{Stands}
+use Rattle.tp_placing.specs.LoadedBoard.{Stands}
 use Rattle.tp_placing.specs.Ticks.{HasLeastTick}
-use Rattle.tp_placing.specs.Writing.{CanCommit}
+use Rattle.tp_placing.specs.Commits.{CanCommit}
 use Rattle.tp_search.specs.Boards.{IsReady}
 use Rattle.tp_search.specs.declared.trial.NoPlan.{NoPlan}
 use Rattle.tp_search.specs.declared.trial.NoPlan.TheVariants.{Never, Spent}

@@ -9,8 +9,8 @@ use Rattle.tp_schedule.specs.declared.parts.Ask.{Ask}
 use Rattle.tp_schedule.specs.declared.parts.Plan.{Plan}
 use Rattle.tp_constraints.specs.Suffixes.{Suffix, SuffixTimes, list_of}
 use Rattle.tp_placing.specs.Ticks.{IsLeastTick}
-use Rattle.tp_placing.specs.Writing.{CanCommit}
-use Rattle.tp_ways.specs.Ways.{IsPlaced, IsWay}
+use Rattle.tp_placing.specs.Commits.{CanCommit}
+use Rattle.tp_constraints.specs.Ways.{IsPlaced, IsWay}
 
 -- the least end among its times is the bound of the list
 abbrev pub WayBound : Type 0

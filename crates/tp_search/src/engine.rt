@@ -1,19 +1,19 @@
 //! A workspace and a board as a planner.
 ghost use Rattle.std.specs.Prelude.{◌≡◌, ◌<◌, ◌≤◌, ◌⊎◌, ◌++◌, [], false, true, Some, IfErr, IfOk, IsOk, IsTrue, OnErr, OnOk, vec_capacity, vec_len};
-ghost use Rattle.tp_schedule.specs.Planning.{CanAsk, CanSettle, HasTimeFrom, IsAnswer, IsSettled};
-ghost use Rattle.tp_schedule.specs.Planning.Deed.{replied};
+ghost use Rattle.tp_schedule.specs.PlannerAnswers.{CanAsk, CanSettle, HasTimeFrom, IsAnswer, IsSettled};
+ghost use Rattle.tp_schedule.specs.PlannerAnswers.Deed.{replied};
 ghost use Rattle.tp_schedule.specs.Plans.{without};
 ghost use Rattle.tp_schedule.specs.declared.parts.Origin.TheVariants.{Feeder};
 ghost use Rattle.tp_placing.specs.Calls.{IsSameLoad};
 ghost use Rattle.tp_placing.specs.Inside.{most_edges, most_points, most_steps};
-ghost use Rattle.tp_placing.specs.Writing.{IsHeldFrom, IsLoadedFrom};
+ghost use Rattle.tp_placing.specs.Commits.{IsHeldFrom, IsLoadedFrom};
 ghost use Rattle.tp_routes.specs.Tables.{KeepsRooms};
 ghost use Rattle.tp_search.specs.Boards.{IsAtRest};
 ghost use Rattle.tp_search.specs.Engines.{AddsTree, EngineLasts, Follows, HasFewLists, HoldsPlans, IsSameEngine, KeepsTrees, Serves, StepsOn, list_of};
 ghost use Rattle.tp_search.specs.Trials.{EndsEarliest, IsNoPlan};
 ghost use Rattle.tp_search.specs.Workspaces.{IsSpentOf};
 
-use crate::answering::{Answered, answer_loaded, answer_with_tree, earliest_end};
+use crate::ask_answer::{Answered, answer_loaded, answer_with_tree, earliest_end};
 use crate::trial::NoPlan;
 use crate::workspace::Workspace;
 use std::alloc::Global;

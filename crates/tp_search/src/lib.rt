@@ -1,28 +1,28 @@
 //! The earliest plan of a sheet: a best-first search through choice lists on a board.
 #![tactic(auto)]
 
-mod again;
-mod answering;
+mod ask_answer;
+mod best_first;
+mod bound_trees;
 mod children;
-mod diving;
+mod dives;
 mod engine;
-mod following;
 mod goals;
-mod holding;
+mod held_list;
 mod laws;
+mod next_list;
 mod opening;
 mod problem;
-mod searching;
-mod showing;
+mod replay;
 mod states;
 mod store;
-mod taking;
+mod stored_list;
 mod trial;
 mod workspace;
 
-pub use answering::answer;
+pub use ask_answer::answer;
+pub use bound_trees::show_never;
 pub use engine::Engine;
 pub use laws::ways_have_bounds;
-pub use showing::show_never;
 pub use trial::{NoPlan, Trial, plan};
 pub use workspace::Workspace;

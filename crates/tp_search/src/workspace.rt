@@ -2,34 +2,34 @@
 ghost use Rattle.std.specs.Prelude.{ℕ, ◌≡◌, ◌≢◌, ◌≤◌, [], pos, List, None, Some, IfErr, IfOk};
 ghost use Rattle.tp_schedule.specs.declared.parts.Plan.{Plan};
 ghost use Rattle.tp_placing.specs.Boards.{past_of};
-ghost use Rattle.tp_placing.specs.Standing.{Stands};
-ghost use Rattle.tp_placing.specs.Writing.{IsHeldFrom, IsLoadedFrom};
+ghost use Rattle.tp_placing.specs.LoadedBoard.{Stands};
+ghost use Rattle.tp_placing.specs.Commits.{IsHeldFrom, IsLoadedFrom};
 ghost use Rattle.tp_routes.specs.Index.{IsLeadIndex};
 ghost use Rattle.tp_routes.specs.Tables.{AreRooms, KeepsRooms};
 ghost use Rattle.tp_search.specs.Boards.{HasMarks, IsBack, IsReady};
 ghost use Rattle.tp_search.specs.Limits.{HasNoLimit};
 ghost use Rattle.tp_search.specs.Outcomes.{IsOutcome};
 ghost use Rattle.tp_search.specs.Workspaces.{IsFor, StaysFor};
-ghost use Rattle.tp_search.specs.declared.searching.Outcome.TheVariants.{Again};
+ghost use Rattle.tp_search.specs.declared.best_first.Outcome.TheVariants.{Again};
 ghost use Rattle.tp_search.specs.declared.store.Limit.TheVariants.{Unsought};
-ghost use Rattle.tp_showing.specs.Closes.{IsLimit};
-ghost use Rattle.tp_showing.specs.Showing.{IsEarlyEnd};
-ghost use Rattle.tp_trees.specs.Short.{HasFewHops};
-ghost use Rattle.tp_trees.specs.Trees.{IsBoundTree};
+ghost use Rattle.tp_bound_make.specs.Closes.{IsLimit};
+ghost use Rattle.tp_bound_make.specs.TreeProgress.{IsEarlyEnd};
+ghost use Rattle.tp_bound_laws.specs.Short.{HasFewHops};
+ghost use Rattle.tp_bound_laws.specs.Trees.{IsBoundTree};
 
+use crate::best_first::{Outcome, search};
 use crate::goals::{OpenGoal, find_goals};
 use crate::problem::Problem;
-use crate::searching::{Outcome, search};
 use crate::store::{Limit, Store};
 use std::alloc::Global;
 use std::marker::Model;
 use tp_base::{Memory, Network, Tick, Undo};
+use tp_bound_make::{NotShown, show_limit};
 use tp_bounds::BoundTree;
 use tp_machine::Machine;
 use tp_placing::Board;
 use tp_routes::Rooms;
 use tp_schedule::Ask;
-use tp_showing::{NotShown, show_limit};
 
 /// How many searches seek no limit after a dive for one failed: a machine on which such dives fail is not asked again at each
 /// sheet.

@@ -8,7 +8,7 @@ use Rattle.tp_machine.specs.declared.machine.Machine.{Machine}
 use Rattle.tp_machine.specs.declared.parts.Feeder.{Feeder}
 use Rattle.tp_schedule.specs.declared.parts.Plan.{Plan}
 use Rattle.tp_stock.specs.Stock.{IsNotOverdrawn, IsStockedWithin, feeder_at, free_of, free_stock, most_stocked, refilled, taken_at}
-use Rattle.tp_turn.proofs.ListFacts.{find-Some}
+use Rattle.tp_event_rules.proofs.ListFacts.{find-Some}
 
 counted : (stock : ℕ) (more : ℤ) (taken : ℕ) (free : ℤ) → pos taken ≤ℤ (pos stock +ℤ more) → (pos stock +ℤ more) ≤ℤ pos most_stocked
     → ((pos stock +ℤ more) -ℤ pos taken) ≡ free → (pos 0 ≤ℤ free) × (free ≤ℤ pos most_stocked)

@@ -8,22 +8,22 @@ use Rattle.std.proofs.lemmas.List.Elements.{All-head, All-tail}
 use Rattle.tp_machine.specs.declared.machine.Machine.{Machine}
 use Rattle.tp_script.specs.declared.event.Event.{Event}
 use Rattle.tp_jobs.specs.declared.standing.Standing as kept
-use Rattle.tp_schedule.specs.Living.{is_live}
+use Rattle.tp_schedule.specs.LivePlans.{is_live}
 use Rattle.tp_schedule.specs.declared.parts.Plan.{Plan}
 use Rattle.tp_stock.specs.Stock.{by_location, drawn_at, less_taken, taken_at}
 use Rattle.tp_stock.proofs.StockFacts.{at-location, drawn-few}
 use Rattle.tp_choices.proofs.Lists.{filter-all}
-use Rattle.tp_teller.specs.Tellers.{TellsAll}
-use Rattle.tp_turn.specs.Keeping.{is_planned_among}
-use Rattle.tp_turn.specs.Seen.{fronts_of}
-use Rattle.tp_turn.specs.States.{SessionState}
-use Rattle.tp_turning.proofs.LiveFacts.{lost-part}
-use Rattle.tp_standing.specs.Sound.{IsSound}
-use Rattle.tp_standing.specs.Told.{refill_at, told, told_refills}
-use Rattle.tp_standing.proofs.GoesOn.{goes-on}
-use Rattle.tp_runs.specs.GoingOn.{GoesOn}
-use Rattle.tp_runs.specs.Wholes.{IsWhole}
-use Rattle.tp_runs.proofs.Lawful.{events_go_on}
+use Rattle.tp_stream.specs.Tellers.{TellsAll}
+use Rattle.tp_event_rules.specs.StateInvariants.{is_planned_among}
+use Rattle.tp_event_rules.specs.Seen.{fronts_of}
+use Rattle.tp_event_rules.specs.States.{SessionState}
+use Rattle.tp_event_turn.proofs.LiveFacts.{lost-part}
+use Rattle.tp_session_standing.specs.Sound.{IsSound}
+use Rattle.tp_session_standing.specs.Told.{refill_at, told, told_refills}
+use Rattle.tp_session_standing.proofs.GoesOn.{goes-on}
+use Rattle.tp_run_laws.specs.GoingOn.{GoesOn}
+use Rattle.tp_run_laws.specs.Wholes.{IsWhole}
+use Rattle.tp_run_laws.proofs.Lawful.{events_go_on}
 use Rattle.tp_session.specs.Sessions.{Standing, Tells}
 use Rattle.tp_session.proofs.Lawfully.{all_events, at_state, starts}
 

@@ -10,13 +10,13 @@ use Rattle.tp_stream.specs.Scripts.{AnswersLine, NoRefusal}
 use Rattle.tp_stream.specs.Takes.{Place, Stops, StopsBefore, TakesAll, place_of}
 use Rattle.tp_stream.specs.declared.stop.Stop.{Stop}
 use Rattle.tp_stream.specs.declared.stop.Stop.TheVariants.{Memory, Refused, Source, Sink, Line, Lines}
-use Rattle.tp_teller.specs.Tellers.{TellsAll}
-use Rattle.tp_turn.specs.States.{SessionState, empty_state}
-use Rattle.tp_runs.specs.Ends.{IsAnswered, IsAnsweredTo}
-use Rattle.tp_runs.specs.EventRuns.{IsRunOf, TellsEvent}
-use Rattle.tp_runs.specs.Wholes.{IsWhole, TellsLine, TellsTurn}
-use Rattle.tp_runs.proofs.Lawful.{events_lawful, turns_tell_lines, whole-empty}
-use Rattle.tp_runs.proofs.Scripts.{scripts_lawful, stops_lawful}
+use Rattle.tp_stream.specs.Tellers.{TellsAll}
+use Rattle.tp_event_rules.specs.States.{SessionState, empty_state}
+use Rattle.tp_run_laws.specs.Ends.{IsAnswered, IsAnsweredTo}
+use Rattle.tp_run_laws.specs.EventRuns.{IsRunOf, TellsEvent}
+use Rattle.tp_run_laws.specs.Wholes.{IsWhole, TellsLine, TellsTurn}
+use Rattle.tp_run_laws.proofs.Lawful.{events_lawful, turns_tell_lines, whole-empty}
+use Rattle.tp_run_laws.proofs.Scripts.{scripts_lawful, stops_lawful}
 use Rattle.tp_session.specs.Sessions.{SessionsTellLines, Standing, Tells}
 
 module _ (machine : Machine) (nodes : ℕ) (bounds : Bool) where

@@ -1,3 +1,16 @@
+pub mod Releases
+pub mod PlanKeeps
+pub mod FateKeeps
+pub mod ModulesOut
+pub mod OutageKeeps
+pub mod AnswerKeeps
+pub mod LoopKeeps
+pub mod CountedRefills
+pub mod StockKeeps
+pub mod NewCopies
+pub mod TurnKeeps
+pub mod StandsSound
+pub mod ToldBack
 pub mod FreeFacts
 pub mod Lawfully
 pub mod GoesOn

@@ -10,7 +10,7 @@ use Rattle.tp_machine.specs.declared.parts.Sheet.{Sheet}
 use Rattle.tp_machine.specs.declared.machine.Machine.{Machine}
 use Rattle.tp_schedule.specs.Answers.{IsAlternative, KeepsFloors, NoneBefore}
 use Rattle.tp_schedule.specs.Legality.{IsLegal}
-use Rattle.tp_schedule.specs.Planning.{CanAsk, none_exempt}
+use Rattle.tp_schedule.specs.PlannerAnswers.{CanAsk, none_exempt}
 use Rattle.tp_schedule.specs.Plans.{end_of_plan, is_before}
 use Rattle.tp_schedule.specs.declared.parts.Ask.{Ask}
 use Rattle.tp_schedule.specs.declared.parts.Goal.TheVariants.{Tray}
@@ -19,39 +19,39 @@ use Rattle.tp_schedule.specs.declared.parts.Plan.{Plan}
 use Rattle.tp_schedule.specs.declared.parts.SheetId.{SheetId}
 use Rattle.tp_schedule.proofs.Pairs.{AllPairs-cons, AllPairs-nil}
 use Rattle.tp_choices.specs.LiveParts.{MayAskBeside, MayForget, less}
-use Rattle.tp_choices.proofs.Joining.{join_exists}
+use Rattle.tp_choices.proofs.RejoinedPlans.{join_exists}
 use Rattle.tp_choices.proofs.LiveAnswers.{live_answers}
 use Rattle.tp_choices.proofs.LiveBounds.{live_bounds_answers, live_has_none}
 use Rattle.tp_jobs.specs.Backlogs.{tray_in}
-use Rattle.tp_jobs.specs.Refusing.{tray_named}
-use Rattle.tp_jobs.specs.Waiting.{first_copies, given_tray, has_waiting, new_job, sheet_of, sheets_of}
+use Rattle.tp_jobs.specs.JobRefusals.{tray_named}
+use Rattle.tp_jobs.specs.WaitingCopies.{first_copies, given_tray, has_waiting, new_job, sheet_of, sheets_of}
 use Rattle.tp_jobs.specs.declared.parts.Job.{Job}
 use Rattle.tp_jobs.specs.declared.parts.WaitingCopy.{WaitingCopy}
 use Rattle.tp_script.specs.Form.{GroupForm}
 use Rattle.tp_script.specs.declared.event.Event.{Event}
 use Rattle.tp_script.specs.declared.event.Event.TheVariants.{Bad, Job as NewJob, Clock, Jam, Off, On, Refill}
 use Rattle.tp_search.specs.Trials.{EndsEarliest}
-use Rattle.tp_turn.specs.Asking.{ask_waiting, is_full}
-use Rattle.tp_turn.specs.Keeping.{KeepsLines, live_part}
-use Rattle.tp_turn.specs.Labels.{job_name_in}
-use Rattle.tp_turn.specs.Ready.{CanTakeEvents}
-use Rattle.tp_turn.specs.Refusals.{job_refusal}
-use Rattle.tp_turn.specs.States.{SessionState}
-use Rattle.tp_turn.specs.Turns.{with_job}
-use Rattle.tp_turn.proofs.FirstCopies.{accepted-job}
-use Rattle.tp_turn.proofs.NewJob.{lines-job}
-use Rattle.tp_turning.specs.LiveAnswers.{CanAskLive, live_at}
-use Rattle.tp_turning.proofs.CanAskFacts.{can-ask}
-use Rattle.tp_turning.proofs.KeptEvents.{events-job}
-use Rattle.tp_turning.proofs.LiveAnswered.{live-budgets_hold, stays-of}
-use Rattle.tp_turning.proofs.LiveAsks.{full-same}
-use Rattle.tp_turning.proofs.LivePast.{both-parts, gone-is, gone_at, may-ask, may-forget}
-use Rattle.tp_turning.proofs.TurnFacts.{match-false}
-use Rattle.tp_turning.proofs.LiveStates.{WaitsFree, can-ask-live, same-ask, whole-all}
+use Rattle.tp_event_rules.specs.AskPhase.{ask_waiting, is_full}
+use Rattle.tp_event_rules.specs.StateInvariants.{KeepsLines, live_part}
+use Rattle.tp_event_rules.specs.Labels.{job_name_in}
+use Rattle.tp_event_rules.specs.Ready.{CanTakeEvents}
+use Rattle.tp_event_rules.specs.Refusals.{job_refusal}
+use Rattle.tp_event_rules.specs.States.{SessionState}
+use Rattle.tp_event_rules.specs.Turns.{with_job}
+use Rattle.tp_event_rules.proofs.FirstCopies.{accepted-job}
+use Rattle.tp_event_rules.proofs.NewJob.{lines-job}
+use Rattle.tp_event_turn.specs.LiveAnswers.{CanAskLive, live_at}
+use Rattle.tp_event_turn.proofs.CanAskFacts.{can-ask}
+use Rattle.tp_event_turn.proofs.KeptEvents.{events-job}
+use Rattle.tp_event_turn.proofs.LiveAnswered.{live-budgets_hold, stays-of}
+use Rattle.tp_event_turn.proofs.LiveAsks.{full-same}
+use Rattle.tp_event_turn.proofs.LivePast.{both-parts, gone-is, gone_at, may-ask, may-forget}
+use Rattle.tp_event_turn.proofs.TurnFacts.{match-false}
+use Rattle.tp_event_turn.proofs.LiveStates.{WaitsFree, can-ask-live, same-ask, whole-all}
 use Rattle.tp_session.specs.Probes.{AskGives, GivesProbe, IsProbe, Probes, ProbesJob, first_copy}
 use Rattle.tp_stock.specs.Stock.{empties}
-use Rattle.tp_teller.specs.declared.probe.Probe.{Probe}
-use Rattle.tp_teller.specs.declared.probe.Probe.TheVariants.{Ends, Never, Spent, Full, Waits, Refused}
+use Rattle.tp_stream.specs.declared.probe.Probe.{Probe}
+use Rattle.tp_stream.specs.declared.probe.Probe.TheVariants.{Ends, Never, Spent, Full, Waits, Refused}
 
 -- The first copy.
 

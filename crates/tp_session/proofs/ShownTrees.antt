@@ -1,10 +1,10 @@
 -- A tree for the live part of a schedule is one for the whole, and the plan that it proves earliest is there.
 use Rattle.std.proofs.Common.{◌≡◌, ℕ, Bool, true, false, not, ◌||◌, List, [], ◌∷◌, filter, Some, refl, sym, ap, subst, ◌∙◌, Contains}
 use Rattle.std.specs.Prelude.{if◌then◌else◌}
-use Rattle.tp_turn.proofs.ListFacts.{find-Some}
+use Rattle.tp_event_rules.proofs.ListFacts.{find-Some}
 use Rattle.tp_bounds.specs.declared.tree.BoundTree.{BoundTree}
 use Rattle.tp_machine.specs.declared.machine.Machine.{Machine}
-use Rattle.tp_schedule.specs.Living.{is_live}
+use Rattle.tp_schedule.specs.LivePlans.{is_live}
 use Rattle.tp_schedule.specs.Plans.{end_of_plan, is_same_copy, plan_of}
 use Rattle.tp_schedule.specs.declared.parts.Ask.{Ask}
 use Rattle.tp_schedule.specs.declared.parts.Plan.{Plan}
@@ -12,14 +12,14 @@ use Rattle.tp_schedule.specs.declared.parts.Reply.{Reply}
 use Rattle.tp_schedule.specs.declared.parts.Reply.TheVariants.{Planned, Never, Spent}
 use Rattle.tp_schedule.proofs.CopyFacts.{plan_of-itself, same_copy-is}
 use Rattle.tp_schedule.proofs.Membership.{Contains-filter_from}
-use Rattle.tp_trees.specs.Claims.{limit_of, live_part}
-use Rattle.tp_trees.specs.Short.{IsShortTreeFor}
-use Rattle.tp_trees.specs.Trees.{IsBoundTree}
-use Rattle.tp_trees.specs.declared.claim.Claim.{Claim}
-use Rattle.tp_trees.specs.declared.claim.Claim.TheVariants.{Earliest, Never as NeverClaim}
-use Rattle.tp_turning.specs.LiveAnswers.{CanAskLive, IsAnswerOnWhole, live_at}
-use Rattle.tp_turning.proofs.LiveLists.{filter-by}
-use Rattle.tp_turning.proofs.LivePast.{gone-is, gone_at, may-ask}
+use Rattle.tp_bound_laws.specs.Claims.{limit_of, live_part}
+use Rattle.tp_bound_laws.specs.Short.{IsShortTreeFor}
+use Rattle.tp_bound_laws.specs.Trees.{IsBoundTree}
+use Rattle.tp_bound_laws.specs.declared.claim.Claim.{Claim}
+use Rattle.tp_bound_laws.specs.declared.claim.Claim.TheVariants.{Earliest, Never as NeverClaim}
+use Rattle.tp_event_turn.specs.LiveAnswers.{CanAskLive, IsAnswerOnWhole, live_at}
+use Rattle.tp_event_turn.proofs.LiveLists.{filter-by}
+use Rattle.tp_event_turn.proofs.LivePast.{gone-is, gone_at, may-ask}
 use Rattle.tp_search.specs.Engines.{AddsTree}
 
 kept-twice : {X : Type 0} (f : X → Bool) (xs : List X) → filter f (filter f xs) ≡ filter f xs

@@ -8,15 +8,15 @@ use Rattle.tp_script.specs.declared.event.Event.{Event}
 use Rattle.tp_stream.specs.Answers.{AnswersAll}
 use Rattle.tp_stream.specs.Scripts.{AnswersLine}
 use Rattle.tp_stream.specs.Takes.{TakesAll, place_of}
-use Rattle.tp_teller.specs.Tellers.{TellsAll}
-use Rattle.tp_turn.proofs.ReadyTurns.{events-more}
-use Rattle.tp_turn.proofs.StockKept.{stock-more}
-use Rattle.tp_turn.specs.States.{SessionState, empty_state}
-use Rattle.tp_sound.specs.Kept.{CanBeSaved}
-use Rattle.tp_standing.specs.Sound.{IsSound}
-use Rattle.tp_standing.specs.Told.{standing_of, told as state_told}
-use Rattle.tp_runs.proofs.Lawful.{lines_go_on, whole-empty}
-use Rattle.tp_session.specs.Ending.{ScriptEnds}
+use Rattle.tp_stream.specs.Tellers.{TellsAll}
+use Rattle.tp_event_rules.proofs.ReadyTurns.{events-more}
+use Rattle.tp_event_rules.proofs.StockKept.{stock-more}
+use Rattle.tp_event_rules.specs.States.{SessionState, empty_state}
+use Rattle.tp_session.specs.Kept.{CanBeSaved}
+use Rattle.tp_session_standing.specs.Sound.{IsSound}
+use Rattle.tp_session_standing.specs.Told.{standing_of, told as state_told}
+use Rattle.tp_run_laws.proofs.Lawful.{lines_go_on, whole-empty}
+use Rattle.tp_session.specs.SessionEnds.{ScriptEnds}
 use Rattle.tp_session.specs.Sessions.{Standing, Tells}
 use Rattle.tp_session.proofs.Lawfully.{all_lines, starts as begins}
 

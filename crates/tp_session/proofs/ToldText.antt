@@ -11,7 +11,7 @@ use Rattle.tp_log.specs.Records.{record_text}
 use Rattle.tp_log.specs.declared.item.Item.{Item}
 use Rattle.tp_log.specs.declared.item.Item.TheVariants as item
 use Rattle.tp_schedule.specs.declared.records.Record.{Record}
-use Rattle.tp_runs.specs.Runs.{is_of_plan, items_with, trees_behind}
+use Rattle.tp_run_laws.specs.Runs.{is_of_plan, items_with, trees_behind}
 
 -- the trees that stand directly behind a record
 abbrev pub trees_next : Bool → Record → List Record → List BoundTree → List Item

@@ -6,14 +6,14 @@ use Rattle.tp_jobs.specs.declared.standing.Standing as kept
 use Rattle.tp_stream.specs.Scripts.{AnswersLine, NoRefusal, line_bytes, most_lines}
 use Rattle.tp_stream.specs.Takes.{Stops, TakesAll, place_of}
 use Rattle.tp_stream.specs.declared.stop.Stop.{Stop}
-use Rattle.tp_turn.specs.States.{SessionState, empty_state}
-use Rattle.tp_runs.specs.Ends.{IsAnswered, IsAnsweredTo}
-use Rattle.tp_runs.specs.GoingOn.{GoesOn}
-use Rattle.tp_runs.specs.Wholes.{IsWhole}
+use Rattle.tp_event_rules.specs.States.{SessionState, empty_state}
+use Rattle.tp_run_laws.specs.Ends.{IsAnswered, IsAnsweredTo}
+use Rattle.tp_run_laws.specs.GoingOn.{GoesOn}
+use Rattle.tp_run_laws.specs.Wholes.{IsWhole}
 use Rattle.tp_session.specs.Sessions.{Standing, Tells, start_of}
-use Rattle.tp_standing.specs.Sound.{IsSound}
-use Rattle.tp_standing.specs.Told.{told}
-use Rattle.tp_teller.specs.Tellers.{TellsAll}
+use Rattle.tp_session_standing.specs.Sound.{IsSound}
+use Rattle.tp_session_standing.specs.Told.{told}
+use Rattle.tp_stream.specs.Tellers.{TellsAll}
 
 -- where a session of the machine stands in this state
 abbrev pub stands_at : Machine → Option ℕ → Bool → SessionState → Standing

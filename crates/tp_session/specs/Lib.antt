@@ -1,6 +1,8 @@
+pub mod Kept
+pub mod Laws
 pub mod Sessions
 pub mod GoingOn
-pub mod Ending
+pub mod SessionEnds
 pub mod Texts
 pub mod Probes
 pub mod Stocks

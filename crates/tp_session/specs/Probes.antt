@@ -4,24 +4,24 @@ use Rattle.std.specs.Bool.{MatchBool}
 use Rattle.std.specs.Option.{MatchOption}
 use Rattle.tp_machine.specs.declared.machine.Machine.{Machine}
 use Rattle.tp_schedule.specs.Answers.{IsAlternative}
-use Rattle.tp_schedule.specs.Spending.{IsSpent}
+use Rattle.tp_schedule.specs.SpentBudget.{IsSpent}
 use Rattle.tp_schedule.specs.declared.parts.Ask.{Ask}
 use Rattle.tp_schedule.specs.declared.parts.Plan.{Plan}
-use Rattle.tp_jobs.specs.Refusing.{tray_named}
-use Rattle.tp_jobs.specs.Waiting.{first_copies, given_tray, has_waiting, sheets_of}
+use Rattle.tp_jobs.specs.JobRefusals.{tray_named}
+use Rattle.tp_jobs.specs.WaitingCopies.{first_copies, given_tray, has_waiting, sheets_of}
 use Rattle.tp_jobs.specs.declared.parts.WaitingCopy.{WaitingCopy}
 use Rattle.tp_script.specs.Form.{GroupForm}
 use Rattle.tp_script.specs.declared.event.Event.{Event}
 use Rattle.tp_script.specs.declared.event.Event.TheVariants.{Job as NewJob}
 use Rattle.tp_search.specs.Trials.{EndsEarliest}
-use Rattle.tp_turn.specs.Asking.{ask_waiting, is_full}
-use Rattle.tp_turn.specs.Refusals.{refusal}
-use Rattle.tp_turn.specs.States.{SessionState}
-use Rattle.tp_turn.specs.Turns.{with_job}
-use Rattle.tp_runs.specs.Wholes.{IsWhole}
+use Rattle.tp_event_rules.specs.AskPhase.{ask_waiting, is_full}
+use Rattle.tp_event_rules.specs.Refusals.{refusal}
+use Rattle.tp_event_rules.specs.States.{SessionState}
+use Rattle.tp_event_rules.specs.Turns.{with_job}
+use Rattle.tp_run_laws.specs.Wholes.{IsWhole}
 use Rattle.tp_session.specs.Sessions.{Standing}
-use Rattle.tp_teller.specs.declared.probe.Probe.{Probe}
-use Rattle.tp_teller.specs.declared.probe.Probe.TheVariants.{Ends, Never, Spent, Full, Waits, Refused}
+use Rattle.tp_stream.specs.declared.probe.Probe.{Probe}
+use Rattle.tp_stream.specs.declared.probe.Probe.TheVariants.{Ends, Never, Spent, Full, Waits, Refused}
 
 -- what an ask gives: the end of the earliest plans, that there is no alternative, or that the budget of so many lists of
 -- choices is spent

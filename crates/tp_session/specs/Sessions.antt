@@ -7,15 +7,15 @@ use Rattle.tp_search.specs.Engines.{EngineValue, Serves}
 use Rattle.tp_stream.specs.Scripts.{AnswersLine, NoRefusal, line_bytes, most_lines}
 use Rattle.tp_stream.specs.Takes.{Stops, TakesAll, ends_whole, place_of}
 use Rattle.tp_stream.specs.declared.stop.Stop.{Stop}
-use Rattle.tp_teller.specs.Tellers.{TellsAll, most_events}
-use Rattle.tp_turn.specs.Ready.{CanTakeEvents, KeepsStock}
-use Rattle.tp_turn.specs.States.{SessionState, empty_state}
-use Rattle.tp_runs.specs.Ends.{IsAnswered, IsAnsweredTo}
-use Rattle.tp_runs.specs.EventRuns.{IsRunOf}
-use Rattle.tp_runs.specs.Wholes.{TellsTurn}
-use Rattle.tp_sound.specs.Kept.{CanBeSaved}
-use Rattle.tp_standing.specs.Sound.{IsSound, last_number, most_jobs}
-use Rattle.tp_standing.specs.Told.{standing_of, told}
+use Rattle.tp_stream.specs.Tellers.{TellsAll, most_events}
+use Rattle.tp_event_rules.specs.Ready.{CanTakeEvents, KeepsStock}
+use Rattle.tp_event_rules.specs.States.{SessionState, empty_state}
+use Rattle.tp_run_laws.specs.Ends.{IsAnswered, IsAnsweredTo}
+use Rattle.tp_run_laws.specs.EventRuns.{IsRunOf}
+use Rattle.tp_run_laws.specs.Wholes.{TellsTurn}
+use Rattle.tp_session.specs.Kept.{CanBeSaved}
+use Rattle.tp_session_standing.specs.Sound.{IsSound, last_number, most_jobs}
+use Rattle.tp_session_standing.specs.Told.{standing_of, told}
 use Rattle.tp_jobs.specs.declared.standing.Standing as kept
 
 -- the machine, the budget, whether bounds are shown, and the live part of the state: all that answers depend on

@@ -3,7 +3,7 @@ use Rattle.std.specs.Prelude.{◌≡◌, ℕ, ℤ, pos, Option, option_and_then,
 use Rattle.tp_machine.specs.declared.parts.LocId.{LocId}
 use Rattle.tp_machine.specs.declared.machine.Machine.{Machine}
 use Rattle.tp_stock.specs.Stock.{feeder_at, free_stock}
-use Rattle.tp_turn.specs.States.{SessionState}
+use Rattle.tp_event_rules.specs.States.{SessionState}
 use Rattle.tp_session.specs.Sessions.{Standing}
 
 -- the free stock of the feeder at a location; none where no feeder is there or its stock is endless

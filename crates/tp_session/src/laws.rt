@@ -2,17 +2,17 @@
 
 ghost use Rattle.std.specs.Prelude.{ℕ, Bool, Option};
 ghost use Rattle.tp_machine.specs.declared.machine.Machine.{Machine};
-ghost use Rattle.tp_runs.specs.Carrying.{KeepsNodes, ShowsTrees};
-ghost use Rattle.tp_session.specs.Ending.{ScriptsEndSoundly};
+ghost use Rattle.tp_run_laws.specs.CarriedTurns.{KeepsNodes, ShowsTrees};
+ghost use Rattle.tp_session.specs.SessionEnds.{ScriptsEndSoundly};
 ghost use Rattle.tp_session.specs.GoingOn.{EmptyIsWhole, ScriptsGoOn, SessionsGoOn, StopsGoOn, ToldIsWhole};
 ghost use Rattle.tp_session.specs.Sessions.{SessionsLawful, SessionsStandSoundly, SessionsStopLawful, SessionsTellLawful, SessionsTellLines};
-ghost use Rattle.tp_turn.specs.Planners.{right_steps};
-ghost use Rattle.tp_turning.specs.LiveTurns.{AnswersAlone, SettlesRightly};
+ghost use Rattle.tp_event_rules.specs.Planners.{right_steps};
+ghost use Rattle.tp_event_turn.specs.LiveTurns.{AnswersAlone, SettlesRightly};
 
+use crate::{empty_state_is_sound, kept_states_stand_soundly};
 use tp_base::Network;
 use tp_schedule::Planner;
 use tp_search::Engine;
-use tp_sound::{empty_state_is_sound, kept_states_stand_soundly};
 
 /// A workspace and a board look at schedules through right answers alone, settle times rightly, and never change their
 /// number of nodes.

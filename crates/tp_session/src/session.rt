@@ -3,28 +3,28 @@
 ghost use Rattle.std.specs.Prelude.{◌≡◌, ◌+◌, ◌<◌, ◌≤◌, ◌++◌, ℕ, List, [], length, OnOk, OnErr, IfOk, IsOk};
 ghost use Rattle.tp_placing.specs.Inside.{most_edges, most_points, most_steps};
 ghost use Rattle.tp_script.specs.Printed.{IsEchoed};
-ghost use Rattle.tp_teller.specs.Tellers.{most_events};
-ghost use Rattle.tp_turn.specs.LiveStates.{seen};
+ghost use Rattle.tp_stream.specs.Tellers.{most_events};
+ghost use Rattle.tp_event_rules.specs.LiveStates.{seen};
 
-use crate::probing::{first_ask, try_ask};
+use crate::job_probe::{first_ask, try_ask};
+use crate::kept_states_stand_soundly;
+use crate::session_turn::take_turn;
 use crate::settings::Settings;
 use crate::stock::free_sheets;
-use crate::turning::take_turn;
 use std::alloc::Global;
 use std::marker::Model;
 use tp_base::{Memory, Network, Tick};
+use tp_event_rules::LiveState;
+use tp_event_turn::empty_state_can_begin;
 use tp_jobs::{Desk, Standing};
 use tp_machine::{LocId, Machine};
 use tp_placing::Board;
 use tp_schedule::Schedule;
 use tp_script::Event;
 use tp_search::Engine;
-use tp_sound::kept_states_stand_soundly;
-use tp_standing::{sound_standings_go_on, standing_of, state_of};
+use tp_session_standing::{sound_standings_go_on, standing_of, state_of};
 use tp_stn_undo::LiveNet;
-use tp_teller::{Probe, Teller};
-use tp_turn::LiveState;
-use tp_turning::empty_state_can_begin;
+use tp_stream::{Probe, Teller};
 
 /// How many points, edges and marks in force the network of a session is made for.
 const POINTS: u32 = 16_642;
@@ -66,7 +66,7 @@ impl<N: Network + Drop> Drop for SessionOver<N> {
 }
 
 impl<N: Network> Model for SessionOver<N> {
-    ghost use Rattle.tp_turn.specs.LiveStates.{seen};
+    ghost use Rattle.tp_event_rules.specs.LiveStates.{seen};
     ghost use Rattle.tp_session.specs.Sessions.{IsSession, SessionValue};
 
     ghost Value = { SessionValue N };
@@ -141,9 +141,9 @@ impl<N: Network> SessionOver<N> {
     ghost use Rattle.tp_session.specs.Probes.{Probes};
     ghost use Rattle.tp_session.specs.Sessions.{Tells, gone_on};
     ghost use Rattle.tp_session.specs.Stocks.{IsFree};
-    ghost use Rattle.tp_sound.specs.Kept.{CanBeSaved};
-    ghost use Rattle.tp_standing.specs.Sound.{IsSound, last_number, most_jobs};
-    ghost use Rattle.tp_standing.specs.Told.{standing_of};
+    ghost use Rattle.tp_session.specs.Kept.{CanBeSaved};
+    ghost use Rattle.tp_session_standing.specs.Sound.{IsSound, last_number, most_jobs};
+    ghost use Rattle.tp_session_standing.specs.Told.{standing_of};
 
     /// Does the turn of one event, and appends its text. After `Memory` all is as before, but for the board that asks are
     /// answered on.
@@ -324,8 +324,8 @@ impl<N: Network> Teller for SessionOver<N> {
 }
 
 impl<N: Network> Desk for SessionOver<N> {
-    ghost use Rattle.tp_standing.specs.Sound.{IsSound};
-    ghost use Rattle.tp_standing.specs.Told.{standing_of};
+    ghost use Rattle.tp_session_standing.specs.Sound.{IsSound};
+    ghost use Rattle.tp_session_standing.specs.Told.{standing_of};
 
     ghost machine = { λ s. s.standing.machine };
 

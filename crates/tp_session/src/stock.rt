@@ -4,12 +4,12 @@ ghost use Rattle.std.specs.Prelude.{◌≡◌, ◌<◌, ◌≤ℤ◌, Some, opti
 ghost use Rattle.tp_machine.specs.Limits.{most_locations};
 ghost use Rattle.tp_session.specs.Stocks.{IsFreeOf};
 ghost use Rattle.tp_stock.specs.Stock.{feeder_at, free_stock, most_stocked};
-ghost use Rattle.tp_turn.specs.LiveStates.{seen};
-ghost use Rattle.tp_turn.specs.Ready.{KeepsStock, last_copy};
+ghost use Rattle.tp_event_rules.specs.LiveStates.{seen};
+ghost use Rattle.tp_event_rules.specs.Ready.{KeepsStock, last_copy};
 
+use tp_event_rules::LiveState;
 use tp_machine::{Feeder, LocId, Machine};
 use tp_stock::{count_taken, feeder_at, free_stock};
-use tp_turn::LiveState;
 
 /// The free stock of the feeder at the location.
 pub(crate) fn free_sheets(machine: &Machine, state: &LiveState, loc: LocId) -> Option<u32>

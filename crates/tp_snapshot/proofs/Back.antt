@@ -15,15 +15,15 @@ use Rattle.tp_machine.specs.declared.parts.Want.{Want}
 use Rattle.tp_machine.specs.declared.parts.Want.TheVariants.{Blank, Mono, Colour}
 use Rattle.tp_schedule.specs.declared.parts.SheetId.{SheetId}
 use Rattle.tp_script.specs.Form.{GroupForm}
-use Rattle.tp_script.specs.Reading.{face_of, group_with, want_of as side_of}
+use Rattle.tp_script.specs.EventReaders.{face_of, group_with, want_of as side_of}
 use Rattle.tp_script.specs.Script.{face_byte, spec_text, want_byte}
 use Rattle.tp_words.proofs.PartFacts.{cut_again, lacks_from}
-use Rattle.tp_words.proofs.Spelling.{name_spells}
+use Rattle.tp_words.proofs.SpelledWords.{name_spells}
 use Rattle.tp_words.specs.Each.{each_read}
 use Rattle.tp_words.specs.Fields.{IsName, pair_of}
 use Rattle.tp_bounds.proofs.SheetFacts.{sheet_spells}
 use Rattle.tp_bounds.specs.Sheets.{sheet_text}
-use Rattle.tp_turn.specs.Labels.{label_by}
+use Rattle.tp_event_rules.specs.Labels.{label_by}
 use Rattle.tp_snapshot.specs.Copies.{copy_of, want_of}
 use Rattle.tp_snapshot.specs.Written.{one_sheet, want_text}
 

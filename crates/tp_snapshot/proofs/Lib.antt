@@ -22,4 +22,4 @@ pub mod Verdicts
 pub mod ReadBack
 pub mod OneLine
 pub mod PlainData
-pub mod Passing
+pub mod PassedFacts

@@ -18,14 +18,14 @@ use Rattle.tp_machine.specs.declared.parts.LocId.{LocId}
 use Rattle.tp_jobs.specs.Backlogs.{names_of}
 use Rattle.tp_jobs.specs.declared.parts.Job.{Job}
 use Rattle.tp_jobs.specs.declared.parts.WaitingCopy.{WaitingCopy}
-use Rattle.tp_words.proofs.Spelling.{name_spells}
+use Rattle.tp_words.proofs.SpelledWords.{name_spells}
 use Rattle.tp_words.specs.Fields.{IsName}
-use Rattle.tp_turn.specs.Labels.{location_name}
+use Rattle.tp_event_rules.specs.Labels.{location_name}
 use Rattle.tp_snapshot.proofs.Back.{copy-back, each-back, position-at, want-back}
 use Rattle.tp_snapshot.proofs.Seen.{values_of-items}
 use Rattle.tp_snapshot.specs.Jobs.{DoNamesDiffer, job_from, job_of, tray_in}
 use Rattle.tp_snapshot.specs.Values.{each_of}
-use Rattle.tp_snapshot.specs.Waiting.{wait_from, wait_of}
+use Rattle.tp_snapshot.specs.WaitingCopies.{wait_from, wait_of}
 use Rattle.tp_snapshot.specs.Written.{job_data, wait_data}
 
 -- the list at a key is read back where each of it is

@@ -6,11 +6,11 @@ use Rattle.std.proofs.lemmas.Bool.Decides.{nat_tests}
 use Rattle.std.proofs.lemmas.Nat.Bits.{bit_at-pow_other, bit_at-zero, bit_at_or}
 use Rattle.std.proofs.lemmas.Option.{none-some, same_Some}
 use Rattle.serde_json.specs.Data.{Data, null, boolean, number, string, array, object}
-use Rattle.tp_machine.specs.Using.{is_out, put_out}
+use Rattle.tp_machine.specs.ModuleUse.{is_out, put_out}
 use Rattle.tp_machine.specs.declared.parts.Feeder.{Feeder}
 use Rattle.tp_machine.specs.declared.parts.Outs.{Outs}
 use Rattle.tp_words.proofs.Steps.{and_then_some, map_some}
-use Rattle.tp_standing.specs.Sound.{AreFree, IsFreeOf, most_free}
+use Rattle.tp_session_standing.specs.Sound.{AreFree, IsFreeOf, most_free}
 use Rattle.tp_snapshot.proofs.ReadFacts.{whole-most}
 use Rattle.tp_snapshot.specs.Moments.{free_in, is_text, none_out, out_from, stock_from}
 use Rattle.tp_snapshot.specs.Values.{whole_of}

@@ -18,10 +18,10 @@ use Rattle.tp_schedule.specs.declared.parts.Plan.{Plan}
 use Rattle.tp_jobs.specs.Backlogs.{tray_in}
 use Rattle.tp_jobs.specs.declared.parts.Job.{Job}
 use Rattle.tp_jobs.specs.declared.standing.Standing.{Standing}
-use Rattle.tp_telling.proofs.NameFacts.{acts-known}
-use Rattle.tp_turn.specs.Keeping.{is_known, is_own_goal}
-use Rattle.tp_turn.specs.Labels.{job_name}
-use Rattle.tp_standing.specs.Sound.{IsKeptPlan, IsSound}
+use Rattle.tp_event_records.proofs.NameFacts.{acts-known}
+use Rattle.tp_event_rules.specs.StateInvariants.{is_known, is_own_goal}
+use Rattle.tp_event_rules.specs.Labels.{job_name}
+use Rattle.tp_session_standing.specs.Sound.{IsKeptPlan, IsSound}
 use Rattle.tp_snapshot.specs.Texts.{HasNames}
 use Rattle.tp_snapshot.specs.Written.{has_location, is_action, is_goal_known, is_of_jobs, is_plan_known}
 

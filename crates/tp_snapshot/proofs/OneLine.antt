@@ -9,7 +9,7 @@ use Rattle.serde_json.specs.Data.{Data, null, boolean, number, unsigned, negativ
 use Rattle.serde_json.specs.View.{items_of}
 use Rattle.serde_json.specs.Written.{comma_if, compact_text, has_float, items_have_float, items_text, members_have_float, members_text}
 use Rattle.tp_words.proofs.PartFacts.{lacks-append, lacks_from}
-use Rattle.tp_words.proofs.Spelling.{number_spells}
+use Rattle.tp_words.proofs.SpelledWords.{number_spells}
 use Rattle.tp_words.specs.Parts.{lacks}
 
 -- a value whose numbers are whole and fit in 32 bits

@@ -11,7 +11,7 @@ use Rattle.tp_snapshot.specs.Jobs.{jobs_of}
 use Rattle.tp_snapshot.specs.Moments.{now_of, outs_of, stock_of}
 use Rattle.tp_snapshot.specs.Plans.{plans_of}
 use Rattle.tp_snapshot.specs.Told.{IsToldBy, Tells}
-use Rattle.tp_snapshot.specs.Waiting.{waiting_of}
+use Rattle.tp_snapshot.specs.WaitingCopies.{waiting_of}
 
 pub one : (m : Machine) (d : Data) (t t' : Standing) → IsToldBy m d t → IsToldBy m d t' → t ≡ t'
 one m d t t' a b =

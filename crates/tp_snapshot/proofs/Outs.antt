@@ -6,7 +6,7 @@ use Rattle.std.proofs.lemmas.Option.{slice_get_cases}
 use Rattle.serde_json.specs.Data.{Data, string}
 use Rattle.serde_json.specs.View.{view}
 use Rattle.serde_json.specs.declared.value.Value.{Value}
-use Rattle.tp_machine.specs.Using.{is_out, put_out}
+use Rattle.tp_machine.specs.ModuleUse.{is_out, put_out}
 use Rattle.tp_machine.specs.declared.parts.Feeder.{Feeder}
 use Rattle.tp_machine.specs.declared.parts.Outs.{Outs}
 use Rattle.tp_words.specs.Each.{with_front}

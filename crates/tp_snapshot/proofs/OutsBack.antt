@@ -8,7 +8,7 @@ use Rattle.std.proofs.lemmas.Nat.Bits.{bit_at-lt, bit_at-pow_other, bit_at-pow_s
 use Rattle.std.proofs.lemmas.Slice.Eq.{bytes_eq-Decides}
 use Rattle.serde_json.specs.Data.{string}
 use Rattle.tp_machine.proofs.Lists.{AllPairs-head, AllPairs-tail}
-use Rattle.tp_machine.specs.Using.{is_out, put_out}
+use Rattle.tp_machine.specs.ModuleUse.{is_out, put_out}
 use Rattle.tp_machine.specs.declared.parts.Outs.{Outs}
 use Rattle.tp_snapshot.specs.Moments.{none_out, out_from}
 use Rattle.tp_snapshot.specs.Written.{out_names}

@@ -17,16 +17,16 @@ use Rattle.tp_schedule.specs.declared.parts.Goal.TheVariants.{Tray, Purge}
 use Rattle.tp_schedule.specs.declared.parts.SheetId.{SheetId}
 use Rattle.tp_words.proofs.Steps.{and_then_some}
 use Rattle.tp_bounds.specs.Sheets.{sheet_of}
-use Rattle.tp_jobs.specs.Refusing.{tray_at, tray_named}
+use Rattle.tp_jobs.specs.JobRefusals.{tray_at, tray_named}
 use Rattle.tp_jobs.specs.declared.parts.Job.{Job}
 use Rattle.tp_jobs.specs.declared.parts.WaitingCopy.{WaitingCopy}
-use Rattle.tp_turn.specs.Keeping.{is_own_goal}
+use Rattle.tp_event_rules.specs.StateInvariants.{is_own_goal}
 use Rattle.tp_snapshot.proofs.ReadFacts.{field-value, when_some}
 use Rattle.tp_snapshot.specs.Copies.{copy_by, copy_in, copy_of, want_in}
 use Rattle.tp_snapshot.specs.Jobs.{job_from, job_of, tray_in}
 use Rattle.tp_snapshot.specs.Plans.{goal_in, goal_of}
 use Rattle.tp_snapshot.specs.Values.{field_of, has_members, name_in}
-use Rattle.tp_snapshot.specs.Waiting.{wait_from, wait_of}
+use Rattle.tp_snapshot.specs.WaitingCopies.{wait_from, wait_of}
 
 -- a copy of one of so many jobs, with its numbers in their ranges
 pub record IsCopy (jobs : ℕ) (copy : SheetId) : Type 0 where

@@ -9,7 +9,7 @@ use Rattle.tp_schedule.specs.declared.parts.Goal.TheVariants.{Tray, Purge}
 use Rattle.tp_schedule.specs.declared.parts.Plan.{Plan}
 use Rattle.tp_words.specs.Parts.{lacks}
 use Rattle.tp_jobs.specs.declared.standing.Standing.{Standing}
-use Rattle.tp_standing.specs.Sound.{AreFree, IsFreeOf, IsSound}
+use Rattle.tp_session_standing.specs.Sound.{AreFree, IsFreeOf, IsSound}
 use Rattle.tp_snapshot.proofs.OneLine.{AreItemsPlain, IsPlain, all-plain, no-float, text-lacks}
 use Rattle.tp_snapshot.specs.Written.{act_data, goal_data, job_data, out_names, plan_data, snapshot_data, stock_data, wait_data, whole_data}
 use Rattle.serde_json.specs.View.{items_of}

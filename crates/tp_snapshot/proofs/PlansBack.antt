@@ -22,14 +22,14 @@ use Rattle.tp_schedule.specs.declared.parts.Goal.TheVariants.{Tray, Purge}
 use Rattle.tp_schedule.specs.declared.parts.Kind.{Kind}
 use Rattle.tp_schedule.specs.declared.parts.Kind.TheVariants.{Whole, Front}
 use Rattle.tp_schedule.specs.declared.parts.Plan.{Plan}
-use Rattle.tp_words.proofs.Spelling.{name_spells}
+use Rattle.tp_words.proofs.SpelledWords.{name_spells}
 use Rattle.tp_words.specs.Fields.{IsName}
 use Rattle.tp_jobs.specs.Backlogs.{names_of, tray_in}
 use Rattle.tp_jobs.specs.declared.parts.Job.{Job}
-use Rattle.tp_telling.proofs.NameFacts.{acts-known}
-use Rattle.tp_turn.specs.Keeping.{is_known, is_of_its_job, is_own_goal}
-use Rattle.tp_turn.specs.Labels.{action_name, job_name, job_name_in}
-use Rattle.tp_standing.specs.Sound.{IsReleasedBy}
+use Rattle.tp_event_records.proofs.NameFacts.{acts-known}
+use Rattle.tp_event_rules.specs.StateInvariants.{is_known, is_of_its_job, is_own_goal}
+use Rattle.tp_event_rules.specs.Labels.{action_name, job_name, job_name_in}
+use Rattle.tp_session_standing.specs.Sound.{IsReleasedBy}
 use Rattle.tp_snapshot.proofs.Back.{copy-back, unequal, want-back}
 use Rattle.tp_snapshot.proofs.ListsBack.{each-told, name-at, tray-back}
 use Rattle.tp_snapshot.proofs.PlanFacts.{plan-made}

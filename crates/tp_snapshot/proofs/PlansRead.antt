@@ -20,9 +20,9 @@ use Rattle.tp_schedule.specs.declared.parts.Plan.{Plan}
 use Rattle.tp_words.proofs.Steps.{and_then_some}
 use Rattle.tp_jobs.specs.Backlogs.{names_of, tray_in as job_tray}
 use Rattle.tp_jobs.specs.declared.parts.Job.{Job}
-use Rattle.tp_turn.specs.Keeping.{is_known, is_of_its_job, is_own_goal}
-use Rattle.tp_turn.specs.Labels.{job_name, job_name_in}
-use Rattle.tp_standing.specs.Sound.{IsReleasedBy}
+use Rattle.tp_event_rules.specs.StateInvariants.{is_known, is_of_its_job, is_own_goal}
+use Rattle.tp_event_rules.specs.Labels.{job_name, job_name_in}
+use Rattle.tp_session_standing.specs.Sound.{IsReleasedBy}
 use Rattle.tp_snapshot.proofs.PartsRead.{IsCopy, copy-read, goal-read}
 use Rattle.tp_snapshot.proofs.ReadFacts.{field-value, list-read, when_some, whole-most}
 use Rattle.tp_snapshot.specs.Copies.{copy_in, want_in}

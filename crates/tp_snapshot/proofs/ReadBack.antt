@@ -4,8 +4,8 @@ use Rattle.serde_json.specs.Data.{Data}
 use Rattle.serde_json.specs.Find.{as_str}
 use Rattle.tp_machine.specs.declared.machine.Machine.{Machine}
 use Rattle.tp_jobs.specs.declared.standing.Standing.{Standing}
-use Rattle.tp_standing.specs.Sound.{IsSound}
-use Rattle.tp_snap_rules.specs.Rules.{AreKeptTo, KeepsWaiting}
+use Rattle.tp_session_standing.specs.Sound.{IsSound}
+use Rattle.tp_snapshot_rules.specs.Rules.{AreKeptTo, KeepsWaiting}
 use Rattle.tp_snapshot.proofs.ToldBack.{told-back}
 use Rattle.tp_snapshot.specs.Laws.{IsSpelled}
 use Rattle.tp_snapshot.specs.Rules.{IsSnapshot, KeepsTo, has_keys}

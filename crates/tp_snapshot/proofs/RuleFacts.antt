@@ -6,7 +6,7 @@ use Rattle.tp_schedule.specs.declared.parts.Plan.{Plan}
 use Rattle.tp_jobs.specs.Backlogs.{names_of}
 use Rattle.tp_jobs.specs.declared.parts.Job.{Job}
 use Rattle.tp_jobs.specs.declared.standing.Standing.{Standing}
-use Rattle.tp_snap_rules.specs.Rules.{AreInOrder, AreKeptTo, IsFirstBroken, KeepsWaiting}
+use Rattle.tp_snapshot_rules.specs.Rules.{AreInOrder, AreKeptTo, IsFirstBroken, KeepsWaiting}
 use Rattle.tp_snapshot.proofs.OneTold.{one}
 use Rattle.tp_snapshot.proofs.TellFacts.{both, none-some}
 use Rattle.tp_snapshot.specs.Jobs.{DoNamesDiffer, jobs_of}
@@ -14,7 +14,7 @@ use Rattle.tp_snapshot.specs.Moments.{none_out, now_of, outs_of, stock_of}
 use Rattle.tp_snapshot.specs.Plans.{plans_of}
 use Rattle.tp_snapshot.specs.Rules.{BreaksOf, KeepsTo, TellsJobs, TellsMoment, TellsPlans, TellsWaiting}
 use Rattle.tp_snapshot.specs.Told.{IsToldBy}
-use Rattle.tp_snapshot.specs.Waiting.{waiting_of}
+use Rattle.tp_snapshot.specs.WaitingCopies.{waiting_of}
 
 -- the rules from 7 on ask nothing as long as none of them is looked at
 none-later : (n : ℕ) → n < 7 → (machine : Machine) (t : Standing) → AreKeptTo n machine t

@@ -6,7 +6,7 @@ use Rattle.std.proofs.lemmas.List.Elements.{All-contains}
 use Rattle.serde_json.specs.Data.{Data}
 use Rattle.tp_machine.specs.declared.machine.Machine.{Machine}
 use Rattle.tp_schedule.specs.Answers.{KeepsFloors}
-use Rattle.tp_schedule.specs.Planning.{none_exempt}
+use Rattle.tp_schedule.specs.PlannerAnswers.{none_exempt}
 use Rattle.tp_schedule.specs.Plans.{point}
 use Rattle.tp_schedule.specs.declared.parts.Plan.{Plan}
 use Rattle.tp_schedule.specs.declared.parts.SheetId.{SheetId}
@@ -14,8 +14,8 @@ use Rattle.tp_words.proofs.Steps.{and_then_some}
 use Rattle.tp_jobs.specs.Backlogs.{names_of}
 use Rattle.tp_jobs.specs.declared.parts.Job.{Job}
 use Rattle.tp_jobs.specs.declared.standing.Standing.{Standing}
-use Rattle.tp_standing.specs.Sound.{IsKeptPlan, IsKeptWaiting, IsNumbered, IsReleasedBy, IsSound}
-use Rattle.tp_snap_rules.specs.Rules.{AreOnTheirWay}
+use Rattle.tp_session_standing.specs.Sound.{IsKeptPlan, IsKeptWaiting, IsNumbered, IsReleasedBy, IsSound}
+use Rattle.tp_snapshot_rules.specs.Rules.{AreOnTheirWay}
 use Rattle.tp_snapshot.proofs.MomentsRead.{outs-read, stock-read}
 use Rattle.tp_snapshot.proofs.PartsRead.{IsCopy, job-read, waiting-read}
 use Rattle.tp_snapshot.proofs.PlansRead.{IsPlanRead, plan-read, released-read}
@@ -25,7 +25,7 @@ use Rattle.tp_snapshot.specs.Moments.{none_out, out_from, stock_from}
 use Rattle.tp_snapshot.specs.Plans.{plan_of}
 use Rattle.tp_snapshot.specs.Rules.{KeepsTo}
 use Rattle.tp_snapshot.specs.Values.{field_of, list_of, whole_of}
-use Rattle.tp_snapshot.specs.Waiting.{wait_of}
+use Rattle.tp_snapshot.specs.WaitingCopies.{wait_of}
 
 numbered : (t : Standing) (copy : SheetId) → IsCopy (length t.jobs) copy → IsNumbered t copy
 numbered t copy is = record { known = lt-ltb copy.job (length t.jobs) is.known; sheets = is.sheets; copies = is.copies }

@@ -7,7 +7,7 @@ use Rattle.tp_jobs.specs.Backlogs.{names_of}
 use Rattle.tp_jobs.specs.declared.parts.Job.{Job}
 use Rattle.tp_snapshot.specs.Jobs.{jobs_of}
 use Rattle.tp_snapshot.specs.Told.{TellsNone}
-use Rattle.tp_snapshot.specs.Waiting.{waiting_of}
+use Rattle.tp_snapshot.specs.WaitingCopies.{waiting_of}
 
 pub none-some : {X : Type 0} (o : Option X) (x : X) → o ≡ None → o ≡ Some x → ⊥
 none-some o x none some = let apart : None ≡ Some x = sym none ∙ some in absurd cc

@@ -14,10 +14,10 @@ use Rattle.tp_machine.specs.declared.parts.Sheet.{Sheet}
 use Rattle.tp_machine.specs.declared.parts.State.{State}
 use Rattle.tp_schedule.specs.Routes.{IsFreshStart}
 use Rattle.tp_jobs.specs.Backlogs.{names_of}
-use Rattle.tp_jobs.specs.Refusing.{has_media}
+use Rattle.tp_jobs.specs.JobRefusals.{has_media}
 use Rattle.tp_jobs.specs.declared.standing.Standing.{Standing}
 use Rattle.tp_words.specs.Fields.{IsName}
-use Rattle.tp_standing.specs.Sound.{AreFree, IsFreeOf, IsSound}
+use Rattle.tp_session_standing.specs.Sound.{AreFree, IsFreeOf, IsSound}
 use Rattle.tp_snapshot.proofs.ListsBack.{each-told, job-back, wait-back}
 use Rattle.tp_snapshot.proofs.OutsBack.{outs-back}
 use Rattle.tp_snapshot.proofs.PlansBack.{plan-back}
@@ -28,7 +28,7 @@ use Rattle.tp_snapshot.specs.Moments.{free_in, now_of, outs_of, stock_from, stoc
 use Rattle.tp_snapshot.specs.Plans.{plan_of}
 use Rattle.tp_snapshot.specs.Texts.{IsWritten}
 use Rattle.tp_snapshot.specs.Told.{IsToldBy, Tells}
-use Rattle.tp_snapshot.specs.Waiting.{wait_of}
+use Rattle.tp_snapshot.specs.WaitingCopies.{wait_of}
 use Rattle.tp_snapshot.specs.Written.{job_data, out_names, plan_data, snapshot_data, stock_data, wait_data}
 
 free-back : (stock free : Option ℕ) → IsFreeOf stock free → free_in stock (stock_data free) ≡ Some free

@@ -8,9 +8,9 @@ use Rattle.tp_machine.specs.declared.parts.Sheet.{Sheet}
 use Rattle.tp_schedule.specs.declared.parts.SheetId.{SheetId}
 use Rattle.tp_schedule.specs.declared.records.SheetName.{SheetName}
 use Rattle.tp_script.specs.Form.{GroupForm}
-use Rattle.tp_script.specs.Reading.{group_with}
+use Rattle.tp_script.specs.EventReaders.{group_with}
 use Rattle.tp_words.specs.Fields.{◌>>=◌, name_of, pair_of}
-use Rattle.tp_standing.specs.Sound.{last_number, last_sheet}
+use Rattle.tp_session_standing.specs.Sound.{last_number, last_sheet}
 use Rattle.tp_bounds.specs.Sheets.{sheet_of}
 
 -- the copy of a job among these names, its sheet from 1 to 4,096, and its number from 1 to 4,000,000,000

@@ -5,9 +5,9 @@ use Rattle.serde_json.specs.Find.{as_bool}
 use Rattle.tp_machine.specs.declared.machine.Machine.{Machine}
 use Rattle.tp_machine.specs.declared.parts.LocId.{LocId}
 use Rattle.tp_words.specs.Fields.{◌>>=◌}
-use Rattle.tp_jobs.specs.Refusing.{tray_named}
+use Rattle.tp_jobs.specs.JobRefusals.{tray_named}
 use Rattle.tp_jobs.specs.declared.parts.Job.{Job}
-use Rattle.tp_standing.specs.Sound.{most_jobs}
+use Rattle.tp_session_standing.specs.Sound.{most_jobs}
 use Rattle.tp_snapshot.specs.Values.{each_of, field_of, has_members, name_in}
 
 -- a text that is the name of a tray

@@ -3,7 +3,7 @@ use Rattle.std.specs.Prelude.{◌≡◌, ℕ, ◌<◌, ◌^◌, List, All}
 use Rattle.tp_machine.specs.declared.machine.Machine.{Machine}
 use Rattle.tp_words.specs.Fields.{IsName}
 use Rattle.tp_jobs.specs.declared.standing.Standing.{Standing}
-use Rattle.tp_standing.specs.Sound.{IsSound}
+use Rattle.tp_session_standing.specs.Sound.{IsSound}
 use Rattle.tp_snapshot.specs.Rules.{IsBrokenAt, IsSnapshot}
 use Rattle.tp_snapshot.specs.Texts.{IsNotJson, IsWritten}
 use Rattle.tp_snapshot.specs.Told.{Tells}

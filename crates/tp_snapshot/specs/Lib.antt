@@ -3,7 +3,7 @@ pub mod Values
 pub mod Moments
 pub mod Copies
 pub mod Jobs
-pub mod Waiting
+pub mod WaitingCopies
 pub mod Plans
 pub mod Texts
 pub mod Told

@@ -2,13 +2,13 @@
 use Rattle.std.specs.Prelude.{ℕ, suc, Bool, false, List, [], ◌∷◌, Option, Some, None, option_map, codes, if◌then◌else◌}
 use Rattle.std.specs.Str.{bytes_eq}
 use Rattle.serde_json.specs.Data.{Data, null, string}
-use Rattle.tp_machine.specs.Using.{put_out}
+use Rattle.tp_machine.specs.ModuleUse.{put_out}
 use Rattle.tp_machine.specs.declared.machine.Machine.{Machine}
 use Rattle.tp_machine.specs.declared.parts.Feeder.{Feeder}
 use Rattle.tp_machine.specs.declared.parts.Outs.{Outs}
-use Rattle.tp_schedule.specs.Planning.{last_tick}
+use Rattle.tp_schedule.specs.PlannerAnswers.{last_tick}
 use Rattle.tp_words.specs.Fields.{◌>>=◌}
-use Rattle.tp_standing.specs.Sound.{most_free}
+use Rattle.tp_session_standing.specs.Sound.{most_free}
 use Rattle.tp_snapshot.specs.Values.{field_of, list_of, whole_of}
 
 abbrev pub now_of : Data → Option ℕ

@@ -17,7 +17,7 @@ use Rattle.tp_schedule.specs.declared.parts.Plan.{Plan}
 use Rattle.tp_words.specs.Fields.{◌>>=◌}
 use Rattle.tp_jobs.specs.Backlogs.{names_of}
 use Rattle.tp_jobs.specs.declared.parts.Job.{Job}
-use Rattle.tp_standing.specs.Sound.{last_point}
+use Rattle.tp_session_standing.specs.Sound.{last_point}
 use Rattle.tp_snapshot.specs.declared.course.TimedActs.{TimedActs}
 use Rattle.tp_snapshot.specs.declared.course.Owner.{Owner}
 use Rattle.tp_snapshot.specs.Copies.{copy_in, want_in}

@@ -7,13 +7,13 @@ use Rattle.tp_machine.specs.declared.machine.Machine.{Machine}
 use Rattle.tp_machine_text.specs.Texts.{IsMachineText}
 use Rattle.tp_jobs.specs.Backlogs.{names_of}
 use Rattle.tp_jobs.specs.declared.standing.Standing.{Standing}
-use Rattle.tp_snap_rules.specs.Rules.{AreInOrder, AreKeptTo, KeepsWaiting}
+use Rattle.tp_snapshot_rules.specs.Rules.{AreInOrder, AreKeptTo, KeepsWaiting}
 use Rattle.tp_snapshot.specs.Jobs.{DoNamesDiffer, jobs_of}
 use Rattle.tp_snapshot.specs.Moments.{now_of, outs_of, stock_of}
 use Rattle.tp_snapshot.specs.Plans.{plans_of}
 use Rattle.tp_snapshot.specs.Texts.{IsJson}
 use Rattle.tp_snapshot.specs.Values.{field_of, has_members, whole_of}
-use Rattle.tp_snapshot.specs.Waiting.{waiting_of}
+use Rattle.tp_snapshot.specs.WaitingCopies.{waiting_of}
 
 -- 1. The value is an object of just these keys.
 abbrev pub top_keys : List (List ℕ)

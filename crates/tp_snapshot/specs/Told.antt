@@ -8,7 +8,7 @@ use Rattle.tp_snapshot.specs.Jobs.{DoNamesDiffer, jobs_of}
 use Rattle.tp_snapshot.specs.Moments.{now_of, outs_of, stock_of}
 use Rattle.tp_snapshot.specs.Plans.{plans_of}
 use Rattle.tp_snapshot.specs.Texts.{IsJson}
-use Rattle.tp_snapshot.specs.Waiting.{waiting_of}
+use Rattle.tp_snapshot.specs.WaitingCopies.{waiting_of}
 
 -- each part of the standing is read from the value, and no two jobs have one name
 pub record IsToldBy (machine : Machine) (d : Data) (t : Standing) : Type 0 where

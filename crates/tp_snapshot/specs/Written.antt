@@ -3,7 +3,7 @@ use Rattle.std.specs.Prelude.{ℕ, suc, Bool, true, not, ◌&&◌, nat_lt, if◌
 use Rattle.std.specs.List.{list_all}
 use Rattle.serde_json.specs.Data.{Data, null, boolean, number, unsigned, string, array, object, no_members, member}
 use Rattle.serde_json.specs.View.{items_of}
-use Rattle.tp_machine.specs.Using.{is_out}
+use Rattle.tp_machine.specs.ModuleUse.{is_out}
 use Rattle.tp_machine.specs.declared.machine.Machine.{Machine}
 use Rattle.tp_machine.specs.declared.parts.ActId.{ActId}
 use Rattle.tp_machine.specs.declared.parts.Outs.{Outs}
@@ -19,7 +19,7 @@ use Rattle.tp_bounds.specs.Sheets.{sheet_text}
 use Rattle.tp_jobs.specs.declared.parts.Job.{Job}
 use Rattle.tp_jobs.specs.declared.parts.WaitingCopy.{WaitingCopy}
 use Rattle.tp_jobs.specs.declared.standing.Standing.{Standing}
-use Rattle.tp_turn.specs.Labels.{action_name, job_name, label_by, location_name}
+use Rattle.tp_event_rules.specs.Labels.{action_name, job_name, label_by, location_name}
 
 abbrev pub whole_data : ℕ → Data
 whole_data n = number (unsigned n)

@@ -4,7 +4,7 @@ ghost use Rattle.serde_json.specs.View.{view};
 ghost use Rattle.tp_snapshot.specs.Copies.{copy_by, copy_in, copy_of, want_in, want_of};
 ghost use Rattle.tp_snapshot.specs.Written.{copy_data, want_data};
 
-use crate::making::text_value;
+use crate::json_values::text_value;
 use crate::sides::{put_sides, read_sides};
 use indexmap::IndexSet;
 use serde_json::Value;
@@ -83,7 +83,7 @@ pub(crate) fn copy_value(alloc: Global, name: Name, copy: SheetId) -> Result<Val
     ensures { IfOk result (λ value. view value ≡ copy_data name copy) }
 {
     let mut text = Vec::new(alloc);
-    put_sheet(&mut text, &tp_telling::label(name, copy))?;
+    put_sheet(&mut text, &tp_event_records::label(name, copy))?;
     text_value(alloc, text.as_slice())
 }
 

@@ -4,20 +4,20 @@ ghost use Rattle.std.specs.List.{list_all};
 ghost use Rattle.serde_json.specs.Data.{array, boolean, member, no_members, object};
 ghost use Rattle.serde_json.specs.View.{items_of, view};
 ghost use Rattle.tp_machine.specs.Rules.{is_among};
-ghost use Rattle.tp_jobs.specs.Refusing.{tray_named};
-ghost use Rattle.tp_standing.specs.Sound.{most_jobs};
+ghost use Rattle.tp_jobs.specs.JobRefusals.{tray_named};
+ghost use Rattle.tp_session_standing.specs.Sound.{most_jobs};
 ghost use Rattle.tp_snapshot.specs.Jobs.{job_of, jobs_of, tray_in};
 ghost use Rattle.tp_snapshot.specs.Values.{few_read, field_of};
 ghost use Rattle.tp_snapshot.specs.Written.{has_location, job_data};
 
-use crate::looking::{has_members, name_at, read_name, truth_at, value_at, values_at};
-use crate::making::name_value;
+use crate::json_lookup::{has_members, name_at, read_name, truth_at, value_at, values_at};
+use crate::json_values::name_value;
 use serde_json::{Value, json};
 use std::alloc::{AllocError, Global};
 use tp_base::{Items, Memory, Name};
+use tp_event_records::location_name;
 use tp_jobs::{JobRow, JobRows};
 use tp_machine::{LocId, Machine};
-use tp_telling::location_name;
 
 /// The most jobs of a snapshot.
 const MOST_JOBS: usize = 1_000_000;

@@ -6,8 +6,8 @@ ghost use Rattle.tp_machine.specs.Limits.{most_modules};
 ghost use Rattle.tp_snapshot.specs.Moments.{free_in, is_text, none_out, now_of, out_from, outs_of, stock_from, stock_of};
 ghost use Rattle.tp_snapshot.specs.Written.{out_names, stock_data, texts};
 
-use crate::looking::{read_whole, value_at, values_at};
-use crate::making::name_value;
+use crate::json_lookup::{read_whole, value_at, values_at};
+use crate::json_values::name_value;
 use serde_json::Value;
 use std::alloc::Global;
 use tp_base::{Items, Memory, Name, Tick};

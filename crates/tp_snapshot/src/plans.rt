@@ -6,10 +6,10 @@ ghost use Rattle.serde_json.specs.Data.{array, boolean, member, no_members, obje
 ghost use Rattle.serde_json.specs.View.{items_of, view};
 ghost use Rattle.tp_machine.specs.Limits.{most_actions};
 ghost use Rattle.tp_schedule.specs.Limits.{most_acts, most_live, most_plan_points};
-ghost use Rattle.tp_schedule.specs.Planning.{last_tick};
+ghost use Rattle.tp_schedule.specs.PlannerAnswers.{last_tick};
 ghost use Rattle.tp_schedule.specs.Plans.{is_front};
 ghost use Rattle.tp_jobs.specs.Backlogs.{names_of};
-ghost use Rattle.tp_standing.specs.Sound.{last_point};
+ghost use Rattle.tp_session_standing.specs.Sound.{last_point};
 ghost use Rattle.tp_snapshot.specs.Plans.{act_in, act_named, course_of, goal_in, kind_of, owner_of, plan_of, plan_with, plans_of, released_of};
 ghost use Rattle.tp_snapshot.specs.Values.{few_read, field_of, whole_of};
 ghost use Rattle.tp_snapshot.specs.Written.{act_data, goal_data, is_action, is_goal_known, is_plan_known, plan_data, whole_data};
@@ -17,17 +17,17 @@ ghost use Rattle.tp_snapshot.specs.Written.{act_data, goal_data, is_action, is_g
 use crate::copies::{copy_value, want_value};
 use crate::course::{Owner, TimedActs};
 use crate::jobs::read_tray;
-use crate::looking::{has_members, read_name, read_whole, truth_at, value_at, values_at};
-use crate::making::name_value;
-use crate::waiting::{copy_at, want_at};
+use crate::json_lookup::{has_members, read_name, read_whole, truth_at, value_at, values_at};
+use crate::json_values::name_value;
+use crate::waiting_copies::{copy_at, want_at};
 use indexmap::IndexSet;
 use serde_json::{Value, json};
 use std::alloc::{AllocError, Global};
 use tp_base::{Items, Memory, Name, Tick};
+use tp_event_records::{action_name, location_name};
 use tp_jobs::{JobRow, PlanRows};
 use tp_machine::{ActId, Action, LocId, Machine, machine_law};
 use tp_schedule::{Acts, Goal, Kind, Plan, Points};
-use tp_telling::{action_name, location_name};
 
 /// The most plans of a snapshot, actions and points of a plan, and the last tick of a point.
 const MOST_PLANS: usize = 256;

@@ -1,6 +1,6 @@
 //! What is wanted of the sides of a sheet: the front's want, the back's, `:`, and the side that is up.
 ghost use Rattle.std.specs.Prelude.{◌≡◌, ◌++◌, OnOk};
-ghost use Rattle.tp_script.specs.Reading.{want_of};
+ghost use Rattle.tp_script.specs.EventReaders.{want_of};
 ghost use Rattle.tp_script.specs.Script.{spec_text, want_byte};
 ghost use Rattle.tp_snapshot.specs.Copies.{sides_of};
 ghost use Rattle.tp_snapshot.specs.Written.{one_sheet};
@@ -31,7 +31,7 @@ fn want_letter(want: Want) -> u8
 }
 
 /// What is wanted of the sides of one sheet.
-#[tactic(auto, unfolding(tp_script::specs::Reading::group_with))]
+#[tactic(auto, unfolding(tp_script::specs::EventReaders::group_with))]
 pub(crate) fn read_sides(text: &[u8]) -> Option<Group>
     ensures { result ≡ sides_of text.now }
 {

@@ -11,15 +11,15 @@ use Rattle.tp_log.specs.Logs.{IsLog, log_text}
 use Rattle.tp_log.specs.declared.item.Item.{Item}
 use Rattle.tp_log.specs.declared.item.Item.TheVariants as item
 use Rattle.tp_machine.specs.declared.machine.Machine.{Machine}
-use Rattle.tp_runs.specs.Runs.{is_of_plan, items_in, items_with, trees_behind}
-use Rattle.tp_runs.specs.EventRuns.{IsRunOf}
+use Rattle.tp_run_laws.specs.Runs.{is_of_plan, items_in, items_with, trees_behind}
+use Rattle.tp_run_laws.specs.EventRuns.{IsRunOf}
 use Rattle.tp_schedule.specs.declared.records.Record.{Record}
 use Rattle.tp_script.specs.declared.event.Event.{Event}
 use Rattle.tp_script.specs.declared.event.Event.TheVariants as event
 use Rattle.tp_session.specs.Sessions.{SessionsTellLawful, Standing, Tells, start_of}
-use Rattle.tp_teller.specs.Tellers.{TellsAll}
-use Rattle.tp_turn.specs.Logs.{Entry}
-use Rattle.tp_soak.specs.Counting.{counts_of, tells}
+use Rattle.tp_stream.specs.Tellers.{TellsAll}
+use Rattle.tp_event_rules.specs.Logs.{Entry}
+use Rattle.tp_soak.specs.SoakCounts.{counts_of, tells}
 use Rattle.tp_soak.specs.Summaries.{IsCountedRun, IsLogText}
 use Rattle.tp_soak.specs.declared.counts.Counts.{Counts}
 use Rattle.tp_soak.specs.declared.counts.ItemKind.TheVariants as kind

@@ -1,2 +1,5 @@
-pub mod Answering
+mod EngineFacts
+mod MachineFacts
+mod ScriptFacts
+pub mod AnsweredEvents
 pub mod Counted

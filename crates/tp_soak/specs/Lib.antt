@@ -1,2 +1,8 @@
-pub mod Counting
+pub mod Draws
+pub mod Engines
+pub mod Machines
+pub mod Kept
+pub mod Scripts
+pub mod Cases
+pub mod SoakCounts
 pub mod Summaries

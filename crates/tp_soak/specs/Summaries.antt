@@ -1,15 +1,15 @@
 -- The line of a number: what the log of its case tells.
 use Rattle.std.specs.Prelude.{◌≡◌, ℕ, true, List, Option, unwrap_or}
 use Rattle.tp_bounds.specs.declared.tree.BoundTree.{BoundTree}
-use Rattle.tp_cases.specs.Cases.{IsMachineFor, events_for}
+use Rattle.tp_soak.specs.Cases.{IsMachineFor, events_for}
 use Rattle.tp_log.specs.Logs.{IsLog, log_text}
 use Rattle.tp_log.specs.declared.item.Item.{Item}
 use Rattle.tp_machine.specs.declared.machine.Machine.{Machine}
-use Rattle.tp_runs.specs.Runs.{IsLawfulRun, items_in}
+use Rattle.tp_run_laws.specs.Runs.{IsLawfulRun, items_in}
 use Rattle.tp_script.specs.declared.event.Event.{Event}
 use Rattle.tp_session.specs.Sessions.{Standing, start_of}
-use Rattle.tp_turn.specs.Logs.{Entry}
-use Rattle.tp_soak.specs.Counting.{counts_of, summary_text}
+use Rattle.tp_event_rules.specs.Logs.{Entry}
+use Rattle.tp_soak.specs.SoakCounts.{counts_of, summary_text}
 use Rattle.tp_soak.specs.declared.counts.Counts.{Counts}
 
 -- the text is a log's

@@ -1,7 +1,7 @@
 //! What is counted of a log.
 
 ghost use Rattle.std.specs.Prelude.{◌≡◌, count_by};
-ghost use Rattle.tp_soak.specs.Counting.{counts_of, is_event, is_of, tells};
+ghost use Rattle.tp_soak.specs.SoakCounts.{counts_of, is_event, is_of, tells};
 
 use tp_log::Item;
 use tp_schedule::Record;

@@ -1,9 +1,19 @@
-//! The case of a number answered by a session, and what its log tells counted.
+//! The case of a number, made, answered by a session, and counted from its log.
 #![tactic(auto)]
 
+mod actions;
+mod case;
+mod case_names;
+mod case_run;
 mod counts;
-mod soaking;
+mod draws;
+mod engine;
+mod machine;
+mod resources;
+mod script;
 mod summary;
 
+pub use case::{Case, soak_case};
+pub use case_run::soak;
 pub use counts::Counts;
-pub use soaking::soak;
+pub use engine::Engine;

@@ -1,7 +1,7 @@
 //! The line that tells what was counted.
 
 ghost use Rattle.std.specs.Prelude.{◌≡◌, ◌++◌, OnOk, decimal};
-ghost use Rattle.tp_soak.specs.Counting.{head_text, summary_text, tail_text};
+ghost use Rattle.tp_soak.specs.SoakCounts.{head_text, summary_text, tail_text};
 
 use crate::counts::Counts;
 use tp_base::Memory;
@@ -16,7 +16,7 @@ fn put_count(out: &mut Vec<u8>, lead: &str, count: usize) -> Result<(), Memory>
     Ok(())
 }
 
-#[tactic(auto, unfolding(crate::specs::Counting::head_text))]
+#[tactic(auto, unfolding(crate::specs::SoakCounts::head_text))]
 fn put_head(out: &mut Vec<u8>, arg: u32, counts: &Counts) -> Result<(), Memory>
     ensures { OnOk result (out.new.items ≡ out.old.items ++ head_text arg counts.now) }
 {
@@ -28,7 +28,7 @@ fn put_head(out: &mut Vec<u8>, arg: u32, counts: &Counts) -> Result<(), Memory>
     Ok(())
 }
 
-#[tactic(auto, unfolding(crate::specs::Counting::tail_text))]
+#[tactic(auto, unfolding(crate::specs::SoakCounts::tail_text))]
 fn put_tail(out: &mut Vec<u8>, counts: &Counts) -> Result<(), Memory>
     ensures { OnOk result (out.new.items ≡ out.old.items ++ tail_text counts.now) }
 {

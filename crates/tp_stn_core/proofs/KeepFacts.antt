@@ -7,7 +7,7 @@ use Rattle.std.specs.List.{slice_get}
 use Rattle.tp_base.specs.declared.edges.PointId.{PointId}
 use Rattle.tp_base.proofs.SliceFacts.{slice_get_left, slice_get_end, slice_get_take}
 use Rattle.tp_stn_core.specs.declared.marks.PlainMark.{PlainMark}
-use Rattle.tp_stn_core.specs.declared.saving.SavedLow.{SavedLow}
+use Rattle.tp_stn_core.specs.declared.saved_low.SavedLow.{SavedLow}
 use Rattle.tp_stn_core.specs.Saved.{relinked, newest_of, is_due, saved_after, newest_after}
 use Rattle.tp_stn_core.specs.Marks.{AreStacked, AreSaved}
 use Rattle.tp_stn_core.proofs.SavedFacts.{newest_names, newest-push_same, newest-push_other, length-relinked, relinked_newest}

@@ -9,7 +9,7 @@ use Rattle.tp_base.specs.Refute.{AreApart}
 use Rattle.tp_base.proofs.SliceFacts.{found, slice_get_drop}
 use Rattle.tp_base.proofs.TraceFacts.{apart-push, apart-short}
 use Rattle.tp_stn_core.specs.declared.marks.PlainMark.{PlainMark}
-use Rattle.tp_stn_core.specs.declared.saving.SavedLow.{SavedLow}
+use Rattle.tp_stn_core.specs.declared.saved_low.SavedLow.{SavedLow}
 use Rattle.tp_stn_core.specs.Saved.{is_due, is_due_at}
 use Rattle.tp_stn_core.specs.Marks.{AreStacked, AreSaved}
 use Rattle.tp_stn_core.proofs.SavedFacts.{newest_late}

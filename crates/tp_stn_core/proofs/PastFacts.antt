@@ -7,7 +7,7 @@ use Rattle.tp_base.specs.declared.edges.PointId.{PointId}
 use Rattle.tp_base.specs.Net.{Net}
 use Rattle.tp_base.proofs.SliceFacts.{map_same, take_set, slice_get_take, slice_get_drop}
 use Rattle.tp_stn_core.specs.declared.marks.PlainMark.{PlainMark}
-use Rattle.tp_stn_core.specs.declared.saving.SavedLow.{SavedLow}
+use Rattle.tp_stn_core.specs.declared.saved_low.SavedLow.{SavedLow}
 use Rattle.tp_stn_core.specs.Saved.{restored, is_due, saved_after}
 use Rattle.tp_stn_core.specs.Marks.{net_at, past_of, AreStacked, AreSaved}
 use Rattle.tp_stn_core.proofs.SavedFacts.{restored-append, take-restored, restored_ignores, newest_names}

@@ -5,7 +5,7 @@ use Rattle.std.proofs.lemmas.List.{length-map}
 use Rattle.std.specs.List.{slice_get}
 use Rattle.tp_base.specs.Net.{IsLeast}
 use Rattle.tp_stn_core.specs.declared.marks.PlainMark.{PlainMark}
-use Rattle.tp_stn_core.specs.declared.saving.SavedLow.{SavedLow}
+use Rattle.tp_stn_core.specs.declared.saved_low.SavedLow.{SavedLow}
 use Rattle.tp_stn_core.specs.declared.plain_net.PlainNet.TheInside.{Inside}
 use Rattle.tp_stn_core.specs.Marks.{net_at}
 use Rattle.tp_stn_core.specs.Plain.{net_in, HasCapacity, IsPlain}

@@ -6,7 +6,7 @@ use Rattle.std.proofs.lemmas.List.{length-set, set-set, set_comm, get_or-set_sam
 use Rattle.std.proofs.Common.{append_assoc, append-nil, length-append}
 use Rattle.std.specs.List.{slice_get}
 use Rattle.tp_base.proofs.SliceFacts.{take_set, slice_get_left, slice_get_last}
-use Rattle.tp_stn_core.specs.declared.saving.SavedLow.{SavedLow}
+use Rattle.tp_stn_core.specs.declared.saved_low.SavedLow.{SavedLow}
 use Rattle.tp_stn_core.specs.Saved.{restored, relinked, newest_from, newest_of}
 
 -- ---- lower bounds put back

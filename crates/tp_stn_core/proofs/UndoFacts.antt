@@ -8,7 +8,7 @@ use Rattle.tp_base.specs.declared.edges.Edge.{Edge}
 use Rattle.tp_base.specs.Net.{Net}
 use Rattle.tp_base.proofs.SliceFacts.{All-at}
 use Rattle.tp_stn_core.specs.declared.marks.PlainMark.{PlainMark}
-use Rattle.tp_stn_core.specs.declared.saving.SavedLow.{SavedLow}
+use Rattle.tp_stn_core.specs.declared.saved_low.SavedLow.{SavedLow}
 use Rattle.tp_stn_core.specs.Saved.{restored}
 use Rattle.tp_stn_core.specs.Marks.{net_at, past_of, AreStacked}
 use Rattle.tp_stn_core.specs.Sound.{IsSound}

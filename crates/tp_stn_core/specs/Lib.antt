@@ -1,6 +1,6 @@
 pub mod Saved
 pub mod Marks
-pub mod Working
+pub mod WorkingRoom
 pub mod Sound
 pub mod PlainState
 pub mod Plain

@@ -3,7 +3,7 @@ use Rattle.std.specs.Prelude.{◌≡◌, ℕ, ◌*◌, ◌<◌, ◌≤◌, List,
 use Rattle.tp_base.specs.declared.edges.Edge.{Edge}
 use Rattle.tp_base.specs.Net.{Net}
 use Rattle.tp_stn_core.specs.declared.marks.PlainMark.{PlainMark}
-use Rattle.tp_stn_core.specs.declared.saving.SavedLow.{SavedLow}
+use Rattle.tp_stn_core.specs.declared.saved_low.SavedLow.{SavedLow}
 use Rattle.tp_stn_core.specs.Saved.{restored, newest_of}
 
 -- the net at a mark

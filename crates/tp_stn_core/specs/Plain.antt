@@ -6,7 +6,7 @@ use Rattle.tp_stn_core.specs.declared.plain_net.PlainNet.TheInside.{Inside}
 use Rattle.tp_stn_core.specs.Marks.{past_of, AreStacked, AreSaved}
 use Rattle.tp_stn_core.specs.PlainState.{PlainState}
 use Rattle.tp_stn_core.specs.Sound.{IsSound}
-use Rattle.tp_stn_core.specs.Working.{HasWorkingCapacity}
+use Rattle.tp_stn_core.specs.WorkingRoom.{HasWorkingCapacity}
 
 abbrev pub net_in : Inside → Net
 net_in a = record { lows = a.lows.items; caps = a.caps.items; edges = a.edges.items }

@@ -1,7 +1,7 @@
 -- Lower bounds that are saved before they rise, at most once for each mark, and how they are put back.
 use Rattle.std.specs.Prelude.{ℕ, suc, ◌+◌, ◌-◌, Bool, false, ◌==◌, nat_le, if◌then◌else◌, List, [], ◌∷◌, ◌++◌, length, slice_get, slice_index, slice_set, Option, Some, None}
 use Rattle.tp_base.specs.declared.edges.PointId.{PointId}
-use Rattle.tp_stn_core.specs.declared.saving.SavedLow.{SavedLow}
+use Rattle.tp_stn_core.specs.declared.saved_low.SavedLow.{SavedLow}
 use Rattle.tp_stn_core.specs.declared.marks.PlainMark.{PlainMark}
 
 -- the lower bounds with the saved ones put back, the last first

@@ -1,12 +1,12 @@
 //! The plain network: it works out the least solution from scratch at each change.
 #![tactic(auto)]
 
-mod changing;
 mod marks;
+mod network;
 mod plain_net;
 mod rounds;
-mod saving;
-mod solving;
-mod undoing;
+mod saved_low;
+mod solver;
+mod undo;
 
 pub use plain_net::PlainNet;

@@ -3,8 +3,8 @@ ghost use Rattle.std.specs.Prelude.{◌≡◌, [], IfOk};
 ghost use Rattle.tp_base.specs.Net.{empty_net};
 
 use crate::marks::PlainMark;
-use crate::saving::SavedLow;
-use crate::solving::SolveSpace;
+use crate::saved_low::SavedLow;
+use crate::solver::SolveSpace;
 use std::alloc::{AllocError, Global};
 use std::marker::Model;
 use tp_base::{Edge, Kept, Memory};

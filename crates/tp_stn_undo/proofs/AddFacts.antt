@@ -12,15 +12,15 @@ use Rattle.tp_base.specs.Grows.{IsKnown}
 use Rattle.tp_base.specs.Kept.{net_of, KeptRefutes}
 use Rattle.tp_base.proofs.SliceFacts.{All-at}
 use Rattle.tp_base.proofs.RefuteFacts.{more_edges_refute}
-use Rattle.tp_stn_undo.specs.declared.states.PointState.{PointState}
-use Rattle.tp_stn_undo.specs.declared.links.Link.{Link}
-use Rattle.tp_stn_undo.specs.declared.states.SavedState.{SavedState}
+use Rattle.tp_stn_undo.specs.declared.point_state.PointState.{PointState}
+use Rattle.tp_stn_undo.specs.declared.link.Link.{Link}
+use Rattle.tp_stn_undo.specs.declared.point_state.SavedState.{SavedState}
 use Rattle.tp_stn_undo.specs.States.{IsSound, lows_of, edges_of}
 use Rattle.tp_stn_undo.specs.Saved.{relinked}
 use Rattle.tp_stn_undo.specs.Flags.{flag, AreKnown}
 use Rattle.tp_stn_undo.specs.Marks.{AreLinks}
-use Rattle.tp_stn_undo.specs.Spreading.{LeadsBack, AreKept}
-use Rattle.tp_stn_undo.specs.Adding.{AreLinkedAfter, AllWait, Adds}
+use Rattle.tp_stn_undo.specs.Propagation.{LeadsBack, AreKept}
+use Rattle.tp_stn_undo.specs.AddedEdges.{AreLinkedAfter, AllWait, Adds}
 use Rattle.tp_stn_undo.proofs.LinkedFacts.{links_undone, same_links}
 use Rattle.tp_stn_undo.proofs.SoundFacts.{edges_more, links_len}
 

@@ -12,7 +12,7 @@ use Rattle.tp_stn_undo.specs.States.{Core, IsSound}
 use Rattle.tp_stn_undo.specs.Marks.{core_at, IsAt, AreStacked}
 use Rattle.tp_stn_undo.specs.Live.{core_in, past_in, IsLive}
 use Rattle.tp_stn_undo.specs.Flags.{Waits as Waiting, AreIdle}
-use Rattle.tp_stn_undo.specs.Tracing.{AreZeros}
+use Rattle.tp_stn_undo.specs.CauseTraces.{AreZeros}
 use Rattle.tp_base.specs.declared.edges.Edge.{Edge}
 use Rattle.std.specs.Prelude.{Vec}
 use Rattle.std.specs.declared.alloc.Global.{Global}

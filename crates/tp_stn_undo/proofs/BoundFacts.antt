@@ -7,8 +7,8 @@ use Rattle.tp_base.specs.Grows.{IsKnown}
 use Rattle.tp_base.specs.Net.{IsLeast}
 use Rattle.tp_base.specs.Kept.{net_of}
 use Rattle.tp_base.proofs.BoundFacts.{moved_least}
-use Rattle.tp_stn_undo.specs.declared.states.PointState.{PointState}
-use Rattle.tp_stn_undo.specs.declared.links.Link.{Link}
+use Rattle.tp_stn_undo.specs.declared.point_state.PointState.{PointState}
+use Rattle.tp_stn_undo.specs.declared.link.Link.{Link}
 use Rattle.tp_stn_undo.specs.States.{IsSound, edges_of, lows_of, times_of}
 use Rattle.tp_stn_undo.proofs.CauseFacts.{no_state}
 use Rattle.tp_stn_undo.proofs.LiftFacts.{lifts_same}

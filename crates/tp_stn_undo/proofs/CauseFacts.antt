@@ -7,8 +7,8 @@ use Rattle.std.specs.Option.{option_map}
 use Rattle.tp_base.specs.declared.edges.Edge.{Edge}
 use Rattle.tp_base.specs.Grows.{cause_of}
 use Rattle.tp_base.proofs.SliceFacts.{found}
-use Rattle.tp_stn_undo.specs.declared.states.PointState.{PointState}
-use Rattle.tp_stn_undo.specs.declared.links.Link.{Link}
+use Rattle.tp_stn_undo.specs.declared.point_state.PointState.{PointState}
+use Rattle.tp_stn_undo.specs.declared.link.Link.{Link}
 use Rattle.tp_stn_undo.specs.States.{edges_of, causes_of, numbered}
 
 -- some point, for what stands past a list's end

@@ -8,9 +8,9 @@ use Rattle.tp_base.specs.declared.edges.Edge.{Edge}
 use Rattle.tp_base.specs.Net.{Keeps, IsSolution}
 use Rattle.tp_base.specs.Grows.{IsKnown, IsSupported, AreWithin, cause_of}
 use Rattle.tp_base.specs.Kept.{net_of}
-use Rattle.tp_stn_undo.specs.declared.states.PointState.{PointState}
-use Rattle.tp_stn_undo.specs.declared.links.Link.{Link}
-use Rattle.tp_stn_undo.specs.declared.states.SavedState.{SavedState}
+use Rattle.tp_stn_undo.specs.declared.point_state.PointState.{PointState}
+use Rattle.tp_stn_undo.specs.declared.link.Link.{Link}
+use Rattle.tp_stn_undo.specs.declared.point_state.SavedState.{SavedState}
 use Rattle.tp_stn_undo.specs.declared.marks.LiveMark.{LiveMark}
 use Rattle.tp_stn_undo.specs.Saved.{restored}
 use Rattle.tp_stn_undo.specs.Marks.{past_of}
@@ -18,8 +18,8 @@ use Rattle.tp_stn_undo.specs.declared.live_net.LiveNet.TheInside.{Inside}
 use Rattle.tp_stn_undo.specs.States.{IsSound, lows_of, times_of, edges_of, causes_of}
 use Rattle.tp_stn_undo.specs.Flags.{Noted, AreKnown, IsSameSave}
 use Rattle.tp_stn_undo.specs.Stacks.{IsStack, CanSave}
-use Rattle.tp_stn_undo.specs.Spreading.{StatesRise, LeadsBack}
-use Rattle.tp_stn_undo.specs.Lifting.{Lifts}
+use Rattle.tp_stn_undo.specs.Propagation.{StatesRise, LeadsBack}
+use Rattle.tp_stn_undo.specs.RaisedBounds.{Lifts}
 use Rattle.tp_stn_undo.specs.Live.{IsLive}
 use Rattle.tp_stn_undo.proofs.StackFacts.{stacked_grown}
 use Rattle.tp_stn_undo.proofs.RaiseFacts.{times_len, lows_len}

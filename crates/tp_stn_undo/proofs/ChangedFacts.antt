@@ -3,18 +3,18 @@ use Rattle.std.proofs.Common.{◌≡◌, ℕ, ◌+◌, ◌*◌, ◌<◌, ◌≤�
 use Rattle.std.proofs.lemmas.List.{length-append}
 use Rattle.std.specs.List.{All}
 use Rattle.tp_base.specs.declared.edges.Edge.{Edge}
-use Rattle.tp_stn_undo.specs.declared.states.PointState.{PointState}
-use Rattle.tp_stn_undo.specs.declared.links.Link.{Link}
-use Rattle.tp_stn_undo.specs.declared.states.SavedState.{SavedState}
+use Rattle.tp_stn_undo.specs.declared.point_state.PointState.{PointState}
+use Rattle.tp_stn_undo.specs.declared.link.Link.{Link}
+use Rattle.tp_stn_undo.specs.declared.point_state.SavedState.{SavedState}
 use Rattle.tp_stn_undo.specs.declared.live_net.LiveNet.TheInside.{Inside}
 use Rattle.tp_stn_undo.specs.States.{IsSound}
 use Rattle.tp_stn_undo.specs.Saved.{restored}
 use Rattle.tp_stn_undo.specs.Flags.{AreKnown}
 use Rattle.tp_stn_undo.specs.Marks.{past_of, AreLinks, AreSaved}
 use Rattle.tp_stn_undo.specs.Stacks.{IsStack}
-use Rattle.tp_stn_undo.specs.Working.{AtRest}
+use Rattle.tp_stn_undo.specs.WorkingRoom.{AtRest}
 use Rattle.tp_stn_undo.specs.Live.{past_in, IsLive}
-use Rattle.tp_stn_undo.specs.Adding.{Adds, new_state}
+use Rattle.tp_stn_undo.specs.AddedEdges.{Adds, new_state}
 use Rattle.tp_stn_undo.proofs.StackFacts.{stacked_grown}
 use Rattle.tp_stn_undo.proofs.KeepFacts.{saved_pointed}
 use Rattle.tp_stn_undo.proofs.PastFacts.{past_edge, past_point}

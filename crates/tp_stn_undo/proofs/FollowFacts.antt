@@ -7,10 +7,10 @@ use Rattle.tp_base.specs.Grows.{IsSupported, PassesCap, cause_of}
 use Rattle.tp_base.specs.Refute.{AreCauses, IsCauseChain, IsCauseCircle, IsLateChain, IsLateCircle}
 use Rattle.tp_base.specs.Kept.{net_of}
 use Rattle.tp_base.proofs.LeastFacts.{supported_causes, late_chain, late_circle}
-use Rattle.tp_stn_undo.specs.declared.states.PointState.{PointState}
-use Rattle.tp_stn_undo.specs.declared.links.Link.{Link}
+use Rattle.tp_stn_undo.specs.declared.point_state.PointState.{PointState}
+use Rattle.tp_stn_undo.specs.declared.link.Link.{Link}
 use Rattle.tp_stn_undo.specs.States.{lows_of, times_of, edges_of, causes_of}
-use Rattle.tp_stn_undo.specs.Spreading.{StatesRise}
+use Rattle.tp_stn_undo.specs.Propagation.{StatesRise}
 use Rattle.tp_stn_undo.proofs.RaiseFacts.{times_len, lows_len, causes_len}
 
 pub none_of : {X : Type 0} (o : Option X) (P : Type 0) → IfNone o P → is_some o ≡ false → P

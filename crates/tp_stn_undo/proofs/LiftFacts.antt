@@ -8,11 +8,11 @@ use Rattle.std.proofs.Math.Seq.{map-set_same}
 use Rattle.tp_base.specs.declared.edges.Edge.{Edge}
 use Rattle.tp_base.specs.Grows.{IsCause, IsSupported, cause_of}
 use Rattle.tp_base.proofs.GrowsFacts.{Changes-set, still_kept}
-use Rattle.tp_stn_undo.specs.declared.states.PointState.{PointState}
+use Rattle.tp_stn_undo.specs.declared.point_state.PointState.{PointState}
 use Rattle.tp_stn_undo.specs.States.{lows_of, times_of, edges_of, causes_of, numbered}
 use Rattle.tp_stn_undo.specs.Flags.{flag}
-use Rattle.tp_stn_undo.specs.Spreading.{AreKept}
-use Rattle.tp_stn_undo.specs.Lifting.{Lifts}
+use Rattle.tp_stn_undo.specs.Propagation.{AreKept}
+use Rattle.tp_stn_undo.specs.RaisedBounds.{Lifts}
 use Rattle.tp_stn_undo.proofs.CauseFacts.{no_state}
 use Rattle.tp_stn_undo.proofs.RaiseFacts.{times_len, lows_len, causes_len, time_at}
 

@@ -7,7 +7,7 @@ use Rattle.std.specs.List.{All}
 use Rattle.tp_base.specs.declared.edges.Edge.{Edge}
 use Rattle.tp_base.specs.Grows.{IsKnown}
 use Rattle.tp_base.proofs.SliceFacts.{slice_get_end, slice_get_take}
-use Rattle.tp_stn_undo.specs.declared.links.Link.{Link}
+use Rattle.tp_stn_undo.specs.declared.link.Link.{Link}
 use Rattle.tp_stn_undo.specs.States.{edges_of}
 use Rattle.tp_stn_undo.specs.Saved.{by_link, relinked, newest_of}
 use Rattle.tp_stn_undo.specs.Marks.{AreLinks}

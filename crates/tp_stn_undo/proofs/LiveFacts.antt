@@ -5,15 +5,15 @@ use Rattle.std.proofs.lemmas.List.{length-map, length-replicate, get_or-replicat
 use Rattle.std.proofs.lemmas.Bool.{cases_lt}
 use Rattle.std.specs.List.{slice_get}
 use Rattle.tp_base.specs.Net.{IsLeast}
-use Rattle.tp_stn_undo.specs.declared.states.PointState.{PointState}
-use Rattle.tp_stn_undo.specs.declared.links.Link.{Link}
+use Rattle.tp_stn_undo.specs.declared.point_state.PointState.{PointState}
+use Rattle.tp_stn_undo.specs.declared.link.Link.{Link}
 use Rattle.tp_stn_undo.specs.declared.marks.LiveMark.{LiveMark}
-use Rattle.tp_stn_undo.specs.declared.states.SavedState.{SavedState}
+use Rattle.tp_stn_undo.specs.declared.point_state.SavedState.{SavedState}
 use Rattle.tp_stn_undo.specs.declared.live_net.LiveNet.TheInside.{Inside}
 use Rattle.tp_stn_undo.specs.Marks.{core_at}
 use Rattle.tp_stn_undo.specs.States.{times_of, net_of_core}
 use Rattle.tp_stn_undo.specs.Live.{core_in, HasCapacity, IsLive}
-use Rattle.tp_stn_undo.specs.Working.{AtRest}
+use Rattle.tp_stn_undo.specs.WorkingRoom.{AtRest}
 
 pub live_empty : (a : Inside) → a.states.items ≡ [] → a.caps.items ≡ [] → a.links.items ≡ [] → a.heads.items ≡ [] → a.working.changes.older ≡ [] → a.marks.items ≡ [] → HasCapacity a → AtRest a.working → IsLive a
 live_empty a l c e h s m capacity rest =

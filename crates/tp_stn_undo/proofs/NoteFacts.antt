@@ -5,8 +5,8 @@ use Rattle.std.proofs.lemmas.List.{set-set, set-get_or, get_or-map, length-map, 
 use Rattle.std.proofs.lemmas.List.Elements.{All-push, All-append}
 use Rattle.std.specs.List.{Contains, slice_get}
 use Rattle.tp_base.proofs.SliceFacts.{found}
-use Rattle.tp_stn_undo.specs.declared.states.PointState.{PointState}
-use Rattle.tp_stn_undo.specs.declared.states.SavedState.{SavedState}
+use Rattle.tp_stn_undo.specs.declared.point_state.PointState.{PointState}
+use Rattle.tp_stn_undo.specs.declared.point_state.SavedState.{SavedState}
 use Rattle.tp_stn_undo.specs.Saved.{restored}
 use Rattle.tp_stn_undo.specs.Flags.{Noted, flag, points_in, AreHeld, AreKnown, IsSameSave}
 use Rattle.tp_stn_undo.proofs.SavedFacts.{restored-append, restored_ignores}

@@ -12,11 +12,11 @@ use Rattle.tp_base.specs.declared.edges.Edge.{Edge}
 use Rattle.tp_base.specs.Net.{Keeps}
 use Rattle.tp_base.specs.Grows.{IsKnown, Grows, Rises, PassesCap, AreWithin, cause_of, slack}
 use Rattle.tp_base.proofs.GrowsFacts.{nat_abs-is, nat_abs-above, Grows-step, Changes-set, Changes-changed, changed, slack-set, still_kept}
-use Rattle.tp_stn_undo.specs.declared.states.PointState.{PointState}
-use Rattle.tp_stn_undo.specs.declared.links.Link.{Link}
+use Rattle.tp_stn_undo.specs.declared.point_state.PointState.{PointState}
+use Rattle.tp_stn_undo.specs.declared.link.Link.{Link}
 use Rattle.tp_stn_undo.specs.States.{lows_of, times_of, edges_of, causes_of, numbered}
 use Rattle.tp_stn_undo.specs.Flags.{flag}
-use Rattle.tp_stn_undo.specs.Spreading.{AreNumbered, AsksFor, AsksMore, StatesRise, KeptFrom, IsMet}
+use Rattle.tp_stn_undo.specs.Propagation.{AreNumbered, AsksFor, AsksMore, StatesRise, KeptFrom, IsMet}
 use Rattle.tp_stn_undo.proofs.CauseFacts.{no_state, no_link, numbered_at, edge_at}
 
 pub times_len : (states : List PointState) → length (times_of states) ≡ length states

@@ -6,9 +6,9 @@ use Rattle.std.proofs.lemmas.List.{length-set, set-set, set_comm, get_or-set_sam
 use Rattle.std.proofs.Common.{append_assoc, append-nil, length-append}
 use Rattle.std.specs.List.{slice_get}
 use Rattle.tp_base.proofs.SliceFacts.{take_set, slice_get_left, slice_get_last}
-use Rattle.tp_stn_undo.specs.declared.states.PointState.{PointState}
-use Rattle.tp_stn_undo.specs.declared.states.SavedState.{SavedState}
-use Rattle.tp_stn_undo.specs.declared.links.Link.{Link}
+use Rattle.tp_stn_undo.specs.declared.point_state.PointState.{PointState}
+use Rattle.tp_stn_undo.specs.declared.point_state.SavedState.{SavedState}
+use Rattle.tp_stn_undo.specs.declared.link.Link.{Link}
 use Rattle.tp_stn_undo.specs.Saved.{restored, relinked, by_link, newest_from, newest_of}
 
 -- ---- lower bounds put back

@@ -13,10 +13,10 @@ use Rattle.tp_base.specs.Kept.{net_of}
 use Rattle.tp_base.proofs.SliceFacts.{map_same, slice_get_left, All-at}
 use Rattle.tp_base.proofs.LeastFacts.{point_least}
 use Rattle.tp_base.proofs.GrowsFacts.{stamped}
-use Rattle.tp_stn_undo.specs.declared.states.PointState.{PointState}
-use Rattle.tp_stn_undo.specs.declared.links.Link.{Link}
+use Rattle.tp_stn_undo.specs.declared.point_state.PointState.{PointState}
+use Rattle.tp_stn_undo.specs.declared.link.Link.{Link}
 use Rattle.tp_stn_undo.specs.States.{Core, IsSound, lows_of, times_of, edges_of, causes_of, numbered}
-use Rattle.tp_stn_undo.specs.Spreading.{AreNumbered, AreKept}
+use Rattle.tp_stn_undo.specs.Propagation.{AreNumbered, AreKept}
 use Rattle.tp_stn_undo.proofs.RaiseFacts.{times_len, lows_len, causes_len}
 use Rattle.tp_stn_undo.proofs.FollowFacts.{Supported}
 

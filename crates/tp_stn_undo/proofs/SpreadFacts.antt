@@ -9,14 +9,14 @@ use Rattle.tp_base.specs.declared.edges.Edge.{Edge}
 use Rattle.tp_base.specs.Net.{Keeps}
 use Rattle.tp_base.proofs.GrowsFacts.{Rises-trans}
 use Rattle.tp_base.proofs.SliceFacts.{slice_get_take}
-use Rattle.tp_stn_undo.specs.declared.states.PointState.{PointState}
-use Rattle.tp_stn_undo.specs.declared.links.Link.{Link}
-use Rattle.tp_stn_undo.specs.declared.states.SavedState.{SavedState}
+use Rattle.tp_stn_undo.specs.declared.point_state.PointState.{PointState}
+use Rattle.tp_stn_undo.specs.declared.link.Link.{Link}
+use Rattle.tp_stn_undo.specs.declared.point_state.SavedState.{SavedState}
 use Rattle.tp_stn_undo.specs.States.{times_of, edges_of, causes_of}
 use Rattle.tp_stn_undo.specs.Saved.{by_link, newest_of}
 use Rattle.tp_stn_undo.specs.Marks.{AreLinks}
 use Rattle.tp_stn_undo.specs.Flags.{AreIdle, AreKnown}
-use Rattle.tp_stn_undo.specs.Spreading.{StatesRise, LeadsBack, KeptFrom, IsMet, AreKept, IsFrom, Reached}
+use Rattle.tp_stn_undo.specs.Propagation.{StatesRise, LeadsBack, KeptFrom, IsMet, AreKept, IsFrom, Reached}
 use Rattle.tp_stn_undo.proofs.SavedFacts.{Names, newest_late, newest_names}
 use Rattle.tp_stn_undo.proofs.LinkFacts.{slice_get_kept}
 use Rattle.tp_stn_undo.proofs.CauseFacts.{no_link, slice_get_at}

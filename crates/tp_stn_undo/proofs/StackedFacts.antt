@@ -2,7 +2,7 @@
 use Rattle.std.proofs.Common.{◌≡◌, ℕ, ◌+◌, ◌*◌, ◌≤◌, List, length, take, length-take, length-take-le, Some, sym, ap, arith}
 use Rattle.std.specs.List.{slice_get}
 use Rattle.tp_stn_undo.specs.declared.marks.LiveMark.{LiveMark}
-use Rattle.tp_stn_undo.specs.declared.states.SavedState.{SavedState}
+use Rattle.tp_stn_undo.specs.declared.point_state.SavedState.{SavedState}
 use Rattle.tp_stn_undo.specs.Flags.{AreKnown}
 use Rattle.tp_stn_undo.specs.Stacks.{IsStack}
 use Rattle.tp_stn_undo.proofs.LinkFacts.{below_last}

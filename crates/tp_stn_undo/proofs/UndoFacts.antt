@@ -4,11 +4,11 @@ use Rattle.std.proofs.lemmas.Option.{slice_get-map}
 use Rattle.std.proofs.lemmas.List.{length-take-le}
 use Rattle.std.specs.List.{All, slice_get}
 use Rattle.std.specs.Option.{option_map}
-use Rattle.tp_stn_undo.specs.declared.states.PointState.{PointState}
-use Rattle.tp_stn_undo.specs.declared.links.Link.{Link}
+use Rattle.tp_stn_undo.specs.declared.point_state.PointState.{PointState}
+use Rattle.tp_stn_undo.specs.declared.link.Link.{Link}
 use Rattle.tp_base.proofs.SliceFacts.{found, All-at}
 use Rattle.tp_stn_undo.specs.declared.marks.LiveMark.{LiveMark}
-use Rattle.tp_stn_undo.specs.declared.states.SavedState.{SavedState}
+use Rattle.tp_stn_undo.specs.declared.point_state.SavedState.{SavedState}
 use Rattle.tp_stn_undo.specs.Saved.{restored}
 use Rattle.tp_stn_undo.specs.Marks.{core_at, past_of, IsAt, AreStacked}
 use Rattle.tp_stn_undo.specs.States.{Core, IsSound}

@@ -1,7 +1,7 @@
 -- Points with a flag each, and lists that hold the flagged ones.
 use Rattle.std.specs.Prelude.{◌≡◌, ℕ, ◌+◌, ◌<◌, ◌≤◌, Bool, true, false, List, [], ◌∷◌, length, slice_index_or, if◌then◌else◌, map}
 use Rattle.std.specs.List.{All, Contains}
-use Rattle.tp_stn_undo.specs.declared.states.SavedState.{SavedState}
+use Rattle.tp_stn_undo.specs.declared.point_state.SavedState.{SavedState}
 
 abbrev pub flag : List Bool → ℕ → Bool
 flag flags v = slice_index_or flags v false

@@ -7,11 +7,11 @@ pub mod Flags
 pub mod Lines
 pub mod Waits
 pub mod Notes
-pub mod Spreading
-pub mod Tracing
-pub mod Lifting
+pub mod Propagation
+pub mod CauseTraces
+pub mod RaisedBounds
 pub mod Chains
-pub mod Working
-pub mod Adding
+pub mod WorkingRoom
+pub mod AddedEdges
 pub mod Live
 pub mod Times

@@ -5,7 +5,7 @@ use Rattle.tp_stn_undo.specs.declared.live_net.LiveNet.TheInside.{Inside}
 use Rattle.tp_stn_undo.specs.States.{Core, IsSound, net_of_core, edges_of, causes_of}
 use Rattle.tp_stn_undo.specs.Marks.{past_of, nets_of, AreStacked, AreSaved, AreLinks}
 use Rattle.tp_stn_undo.specs.LiveState.{LiveState}
-use Rattle.tp_stn_undo.specs.Working.{HasWorkingCapacity, AtRest}
+use Rattle.tp_stn_undo.specs.WorkingRoom.{HasWorkingCapacity, AtRest}
 
 abbrev pub core_in : Inside → Core
 core_in a = record { states = a.states.items; caps = a.caps.items; links = a.links.items }

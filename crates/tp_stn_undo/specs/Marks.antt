@@ -1,10 +1,10 @@
 -- What stands at the marks in force.
 use Rattle.std.specs.Prelude.{◌≡◌, ℕ, ◌*◌, ◌<◌, ◌≤◌, List, length, take, drop, map, slice_get, slice_index, Some}
 use Rattle.tp_base.specs.Net.{Net}
-use Rattle.tp_stn_undo.specs.declared.states.PointState.{PointState}
-use Rattle.tp_stn_undo.specs.declared.links.Link.{Link}
+use Rattle.tp_stn_undo.specs.declared.point_state.PointState.{PointState}
+use Rattle.tp_stn_undo.specs.declared.link.Link.{Link}
 use Rattle.tp_stn_undo.specs.declared.marks.LiveMark.{LiveMark}
-use Rattle.tp_stn_undo.specs.declared.states.SavedState.{SavedState}
+use Rattle.tp_stn_undo.specs.declared.point_state.SavedState.{SavedState}
 use Rattle.tp_stn_undo.specs.States.{Core, net_of_core}
 use Rattle.tp_stn_undo.specs.Saved.{restored, newest_of, by_link}
 

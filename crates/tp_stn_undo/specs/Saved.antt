@@ -1,8 +1,8 @@
 -- What points were before they changed, and how it is put back; and which entry of a list is the newest for a point.
 use Rattle.std.specs.Prelude.{ℕ, suc, ◌==◌, if◌then◌else◌, List, [], ◌∷◌, slice_set}
-use Rattle.tp_stn_undo.specs.declared.states.PointState.{PointState}
-use Rattle.tp_stn_undo.specs.declared.links.Link.{Link}
-use Rattle.tp_stn_undo.specs.declared.states.SavedState.{SavedState}
+use Rattle.tp_stn_undo.specs.declared.point_state.PointState.{PointState}
+use Rattle.tp_stn_undo.specs.declared.link.Link.{Link}
+use Rattle.tp_stn_undo.specs.declared.point_state.SavedState.{SavedState}
 
 -- the points with the saved ones put back, the last first
 abbrev pub restored : List SavedState → List PointState → List PointState

@@ -1,7 +1,7 @@
 -- When points can be saved and put back.
 use Rattle.std.specs.Prelude.{ℕ, ◌+◌, ◌*◌, ◌≤◌, List, length}
 use Rattle.tp_stn_undo.specs.declared.marks.LiveMark.{LiveMark}
-use Rattle.tp_stn_undo.specs.declared.states.SavedState.{SavedState}
+use Rattle.tp_stn_undo.specs.declared.point_state.SavedState.{SavedState}
 use Rattle.tp_stn_undo.specs.Flags.{Noted, AreKnown}
 use Rattle.tp_stn_undo.specs.Marks.{AreStacked, AreSaved}
 

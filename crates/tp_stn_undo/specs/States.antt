@@ -4,8 +4,8 @@ use Rattle.std.specs.List.{All}
 use Rattle.tp_base.specs.declared.edges.Edge.{Edge}
 use Rattle.tp_base.specs.Net.{Net, IsLeast}
 use Rattle.tp_base.specs.Grows.{IsKnown, IsSupported, cause_of}
-use Rattle.tp_stn_undo.specs.declared.states.PointState.{PointState}
-use Rattle.tp_stn_undo.specs.declared.links.Link.{Link}
+use Rattle.tp_stn_undo.specs.declared.point_state.PointState.{PointState}
+use Rattle.tp_stn_undo.specs.declared.link.Link.{Link}
 
 abbrev pub lows_of : List PointState → List ℕ
 lows_of states = map (λ (s : PointState). s.low) states

@@ -1,7 +1,7 @@
 -- Whether points have the times that they had.
 use Rattle.std.specs.Prelude.{◌≡◌, ◌≢◌, ℕ, ◌<◌, List, slice_get, slice_index, Some}
-use Rattle.tp_stn_undo.specs.declared.states.PointState.{PointState}
-use Rattle.tp_stn_undo.specs.declared.states.SavedState.{SavedState}
+use Rattle.tp_stn_undo.specs.declared.point_state.PointState.{PointState}
+use Rattle.tp_stn_undo.specs.declared.point_state.SavedState.{SavedState}
 use Rattle.tp_stn_undo.specs.States.{times_of}
 
 -- the first points, so many, have the same times in both

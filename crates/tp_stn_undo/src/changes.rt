@@ -1,11 +1,11 @@
 //! What points were before they changed: for the marks in force, and before the change that is being made.
 ghost use Rattle.std.specs.Prelude.{◌≡◌, ℕ, ◌+◌, ◌*◌, ◌<◌, ◌≤◌, ◌^◌, false, true, List, [], length, take, drop, slice_get, slice_set, Some, IfOk, vec_capacity};
-ghost use Rattle.tp_stn_undo.specs.declared.states.PointState.{PointState};
+ghost use Rattle.tp_stn_undo.specs.declared.point_state.PointState.{PointState};
 ghost use Rattle.tp_stn_undo.specs.Saved.{restored};
 ghost use Rattle.tp_stn_undo.specs.Times.{IsOneMoved, KeepTimes};
 ghost use Rattle.tp_stn_undo.specs.Flags.{AreHeld, AreKnown, IsSameSave, points_in};
 
-use crate::states::{PointState, SavedState};
+use crate::point_state::{PointState, SavedState};
 use std::alloc::{AllocError, Global};
 use std::marker::Model;
 use tp_base::PointId;

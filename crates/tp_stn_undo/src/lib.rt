@@ -1,20 +1,20 @@
 //! The live network: it keeps its least solution by a worklist, with a cause for each point.
 #![tactic(auto)]
 
-mod adding;
+mod cause_trace;
 mod changes;
-mod changing;
-mod lifting;
 mod line;
-mod linking;
-mod links;
+mod link;
+mod link_lists;
 mod live_net;
+mod lower_bound;
 mod marks;
-mod saving;
-mod spreading;
-mod states;
-mod tracing;
-mod undoing;
+mod network;
+mod new_edges;
+mod point_state;
+mod propagation;
+mod saved_changes;
+mod undo;
 mod waiting;
 mod working;
 

@@ -5,11 +5,11 @@ ghost use Rattle.tp_base.specs.Refute.{IsCauseChain};
 ghost use Rattle.tp_stn_undo.specs.LiveState.{untouched_of};
 ghost use Rattle.tp_stn_undo.specs.Chains.{IsSupport, HasMoreCauses};
 
-use crate::links::Link;
+use crate::cause_trace::write_causes;
+use crate::link::Link;
 use crate::marks::LiveMark;
-use crate::states::PointState;
-use crate::tracing::write_causes;
-use crate::undoing::restore;
+use crate::point_state::PointState;
+use crate::undo::restore;
 use crate::working::Working;
 use std::alloc::{AllocError, Global};
 use std::marker::Model;

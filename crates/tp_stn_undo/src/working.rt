@@ -18,7 +18,7 @@ pub(crate) struct Working {
 }
 
 impl Working {
-    ghost use Rattle.tp_stn_undo.specs.Working.{HasWorkingCapacity, AtRest};
+    ghost use Rattle.tp_stn_undo.specs.WorkingRoom.{HasWorkingCapacity, AtRest};
 
     pub(crate) fn new(alloc: Global, points: u32, marks: u32) -> Result<Working, AllocError>
         ensures capacity { IfOk result (λ w. HasWorkingCapacity points w) }

@@ -4,7 +4,7 @@ ghost use Rattle.tp_machine.specs.Limits.{most_locations};
 ghost use Rattle.tp_schedule.specs.declared.parts.Plan.{Plan};
 ghost use Rattle.tp_stock.specs.Stock.{IsBounded, by_location, is_counted, left_of, less_taken, more_at, refilled, taken_at};
 
-use crate::counting::{MOST_LOCATIONS, Taken, count_taken};
+use crate::taken::{MOST_LOCATIONS, Taken, count_taken};
 use tp_machine::{LocId, Machine};
 use tp_schedule::Schedule;
 

@@ -4,8 +4,8 @@ ghost use Rattle.std.specs.List.{list_any};
 ghost use Rattle.tp_machine.specs.Limits.{most_locations};
 ghost use Rattle.tp_stock.specs.Stock.{IsBounded, empties, feeder_at, feeder_named, free_of, refilled};
 
-use crate::counting::{Taken, count_taken};
 use crate::refills::Refills;
+use crate::taken::{Taken, count_taken};
 use tp_base::Name;
 use tp_machine::{Feeder, LocId, Machine, machine_law};
 use tp_schedule::{Empties, Schedule};

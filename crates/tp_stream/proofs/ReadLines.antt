@@ -1,6 +1,6 @@
 -- The event of a line that was read.
 use Rattle.std.proofs.Common.{◌≡◌, ℕ, false, List, Option, Some, None, inl, inr, refl, sym}
-use Rattle.tp_script.specs.Reading.{event_of}
+use Rattle.tp_script.specs.EventReaders.{event_of}
 use Rattle.tp_script.specs.Script.{IsEvent, IsOff, is_passed, words_of_line}
 use Rattle.tp_script.specs.declared.event.Event.{Event}
 use Rattle.tp_script.specs.declared.event.Event.TheVariants.{Bad, Job, Clock, Jam, Off, On, Refill}

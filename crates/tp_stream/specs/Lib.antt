@@ -1,3 +1,4 @@
+pub mod Tellers
 pub mod Answers
 pub mod Takes
 pub mod Scripts

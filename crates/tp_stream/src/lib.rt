@@ -1,15 +1,19 @@
 //! Input read line by line, each line answered and its answer written before the next line is handled.
 #![tactic(auto)]
 
+mod input_loop;
 mod limits;
 mod pieces;
+mod probe;
 mod script;
 mod stop;
-mod streaming;
 mod taker;
+mod teller;
 
+pub use input_loop::stream;
 pub use limits::Limits;
+pub use probe::Probe;
 pub use script::{SCRIPT_LIMITS, answer_script};
 pub use stop::{Refusal, Stop};
-pub use streaming::stream;
 pub use taker::LineTaker;
+pub use teller::Teller;

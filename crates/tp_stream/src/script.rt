@@ -4,17 +4,17 @@ ghost use Rattle.std.specs.Prelude.{◌≡◌, ◌+◌, ◌<◌, ◌≤◌, ◌^
 ghost use Rattle.tp_outside.specs.Outside.{Rises, IsCounted};
 ghost use Rattle.tp_stream.specs.Scripts.{AnswersLine, IsStopped, IsTaken, ReadsEvent};
 ghost use Rattle.tp_stream.specs.declared.stop.Stop.{Stop};
-ghost use Rattle.tp_teller.specs.Tellers.{most_events};
+ghost use Rattle.tp_stream.specs.Tellers.{most_events};
 
+use crate::Teller;
+use crate::input_loop::stream;
 use crate::limits::Limits;
 use crate::stop::{Refusal, Stop};
-use crate::streaming::stream;
 use crate::taker::LineTaker;
 use std::alloc::Global;
 use tp_base::Memory;
 use tp_outside::{Sink, Source};
 use tp_script::{Event, LineFault, read_line};
-use tp_teller::Teller;
 
 /// How long a script may be: a line has at most 4,096 bytes without its LF, and there are at most 1,000,000.
 pub const SCRIPT_LIMITS: Limits = Limits {

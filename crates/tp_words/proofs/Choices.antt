@@ -5,7 +5,7 @@ use Rattle.std.specs.List.{list_all}
 use Rattle.std.proofs.lemmas.Bool.{cases_Bool, and_parts, and_from, or_left, or_right, eq-eqb, eqb-true, ne_eqb}
 use Rattle.tp_words.specs.Fields.{after_of, begins_with}
 use Rattle.tp_words.proofs.Steps.{map_some}
-use Rattle.tp_words.proofs.Spelling.{Spells, weaker}
+use Rattle.tp_words.proofs.SpelledWords.{Spells, weaker}
 
 -- a value made of another
 pub mapped_spells : {A X : Type 0} {r : List ℕ → Option A} {t : A → List ℕ} {F : A → Type 0} {p : ℕ → Bool} (s : Spells r t F p) (make : A → X) (text : X → List ℕ) (same : (a : A) → text (make a) ≡ t a) → Spells (λ w. option_map make (r w)) text (λ x. (a : A) × (make a ≡ x) × F a) p

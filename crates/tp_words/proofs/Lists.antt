@@ -6,7 +6,7 @@ use Rattle.std.proofs.lemmas.Option.{same_Some}
 use Rattle.tp_words.specs.Each.{each_read}
 use Rattle.tp_words.proofs.Steps.{and_then_some, map_some}
 use Rattle.tp_words.proofs.PartFacts.{AllLack, lacks_from}
-use Rattle.tp_words.proofs.Spelling.{Spells}
+use Rattle.tp_words.proofs.SpelledWords.{Spells}
 
 same_cons : (a b : List ℕ) (s t : List (List ℕ)) → a ≡ b → s ≡ t → a ∷ s ≡ b ∷ t
 same_cons a b s t h k = cc

@@ -10,7 +10,7 @@ use Rattle.tp_words.specs.Fields.{IsName}
 use Rattle.tp_words.specs.Numbers.{IsNumber}
 use Rattle.tp_words.specs.Parts.{cut_at, lacks, parts_at}
 use Rattle.tp_words.proofs.PartFacts.{AllLack, cut_takes, join-parts, lacks_from, lacks-append, parts-join}
-use Rattle.tp_words.proofs.Spelling.{Spells, name_spells, number_spells, weaker}
+use Rattle.tp_words.proofs.SpelledWords.{Spells, name_spells, number_spells, weaker}
 use Rattle.tp_words.specs.Texts.{lines_of, onto_line, spaced}
 
 -- ---- words have neither a space nor a line end in them

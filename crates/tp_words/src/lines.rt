@@ -2,7 +2,7 @@
 ghost use Rattle.std.specs.Prelude.{◌≡◌, ◌≢◌, ◌<◌, ℕ, List, [], ◌∷◌, ◌++◌, length, MatchOption};
 ghost use Rattle.tp_words.specs.Texts.{lines_of};
 
-use crate::parting::cut;
+use crate::split::cut;
 
 /// The first line, with its LF if it has one, and what stands behind it.
 pub fn first_line(text: &[u8]) -> (&[u8], &[u8])

@@ -1,4 +1,4 @@
-use Rattle.tp_choices.proofs.Joining.{join_exists}
+use Rattle.tp_choices.proofs.RejoinedPlans.{join_exists}
 use Rattle.tp_choices.proofs.LiveAnswers.{live_answers}
 use Rattle.tp_choices.proofs.LiveBounds.{live_is_earliest, live_bounds_answers, live_has_none}
 use Rattle.tp_choices.proofs.WholeAnswers.{whole_answers}

@@ -1,4 +1,4 @@
-use Rattle.tp_choices.proofs.Joining.{live_is_least}
+use Rattle.tp_choices.proofs.RejoinedPlans.{live_is_least}
 use Rattle.tp_choices.proofs.LiveTimes.{live_retimes, whole_is_least}
 use Rattle.tp_choices.proofs.WholeAnswers.{whole_retimes}
 use Rattle.tp_choices.proofs.live_times_are_enough.Goals as goal

@@ -1,4 +1,4 @@
-use Rattle.tp_choices.proofs.Leaving.{parent_opens, parent_bound}
+use Rattle.tp_choices.proofs.ShorterLists.{parent_opens, parent_bound}
 use Rattle.tp_choices.proofs.parents_open_no_later.Goals as goal
 
 pub returns-clause-opens : goal.returns-clause-opens

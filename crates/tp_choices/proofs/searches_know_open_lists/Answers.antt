@@ -1,5 +1,5 @@
 use Rattle.tp_choices.proofs.FewLists.{ended_has_few}
-use Rattle.tp_choices.proofs.Searching.{search_reaches, search_fronts, search_below, full_spends}
+use Rattle.tp_choices.proofs.SearchAncestors.{search_reaches, search_fronts, search_below, full_spends}
 use Rattle.tp_choices.proofs.searches_know_open_lists.Goals as goal
 
 pub returns-clause-reaches : goal.returns-clause-reaches

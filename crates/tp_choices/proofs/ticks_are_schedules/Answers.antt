@@ -1,4 +1,4 @@
-use Rattle.tp_choices.proofs.Retiming.{ticks_retime, retimed_ticks}
+use Rattle.tp_choices.proofs.RetimedSchedules.{ticks_retime, retimed_ticks}
 use Rattle.tp_choices.proofs.ticks_are_schedules.Goals as goal
 
 pub returns-clause-to : goal.returns-clause-to

@@ -1,4 +1,4 @@
-use Rattle.tp_constraints.proofs.Hopping.{load_hops, goal_hops, action_hops, stop_hops}
+use Rattle.tp_constraints.proofs.NeighbourHops.{load_hops, goal_hops, action_hops, stop_hops}
 use Rattle.tp_constraints.proofs.PlaceHops.{places_hops}
 use Rattle.tp_constraints.proofs.gaps_are_hops.Goals as goal
 

@@ -1,4 +1,4 @@
-use Rattle.tp_constraints.proofs.Walking.{walk_ahead, walk_late, walk_place, walk_start, walk_step}
+use Rattle.tp_constraints.proofs.PlaceWalks.{walk_ahead, walk_late, walk_place, walk_start, walk_step}
 use Rattle.tp_constraints.proofs.places_are_walks.Goals as goal
 
 pub returns-clause-start : goal.returns-clause-start

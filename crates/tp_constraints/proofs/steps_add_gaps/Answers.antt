@@ -1,5 +1,5 @@
 use Rattle.tp_constraints.proofs.Steps.{goal_law, action_law, stop_law}
-use Rattle.tp_constraints.proofs.Placing.{place_law}
+use Rattle.tp_constraints.proofs.PlaceGaps.{place_law}
 use Rattle.tp_constraints.proofs.steps_add_gaps.Goals as goal
 
 pub returns-clause-goal : goal.returns-clause-goal

@@ -1,5 +1,5 @@
-use Rattle.tp_constraints.proofs.Closing.{least_is_supported}
-use Rattle.tp_constraints.proofs.Supporting.{supported-least, unmarked-later}
+use Rattle.tp_constraints.proofs.SupportClosure.{least_is_supported}
+use Rattle.tp_constraints.proofs.SupportedPoints.{supported-least, unmarked-later}
 use Rattle.tp_constraints.proofs.supports_are_least_schedules.Goals as goal
 
 pub returns-clause-least : goal.returns-clause-least

@@ -1,4 +1,4 @@
-use Rattle.tp_constraints.proofs.Walking.{before_net, earlier_net, stand_net, start_net, walk_shut, walk_solutions}
+use Rattle.tp_constraints.proofs.PlaceWalks.{before_net, earlier_net, stand_net, start_net, walk_shut, walk_solutions}
 use Rattle.tp_constraints.proofs.walks_add_edges.Goals as goal
 
 pub returns-clause-start : goal.returns-clause-start

@@ -1,4 +1,4 @@
-use Rattle.tp_constraints.proofs.Walking.{before_hops, stand_hops, start_hops}
+use Rattle.tp_constraints.proofs.PlaceWalks.{before_hops, stand_hops, start_hops}
 use Rattle.tp_constraints.proofs.walks_are_hops.Goals as goal
 
 pub returns-clause-start : goal.returns-clause-start

@@ -1,5 +1,5 @@
 use Rattle.std.proofs.Common.{◌+◌}
-use Rattle.rows_engines.specs.Asking.{IsForNew, IsOpen}
+use Rattle.rows_engines.specs.BoardAsk.{IsForNew, IsOpen}
 use Rattle.rows_engines.proofs.board_rows.bound_of.Given as goal
 
 abbrev pub invariant-loop-at : goal.invariant-loop-at

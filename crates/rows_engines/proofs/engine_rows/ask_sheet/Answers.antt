@@ -1,5 +1,5 @@
 use Rattle.std.proofs.Common.{subst, sym}
-use Rattle.tp_schedule.specs.Planning.{CanPlanOn}
+use Rattle.tp_schedule.specs.PlannerAnswers.{CanPlanOn}
 use Rattle.rows_engines.proofs.SearchFacts.{plan_on-answered}
 use Rattle.rows_engines.proofs.engine_rows.ask_sheet.Goals as goal
 

@@ -1,7 +1,7 @@
 -- The board was loaded afresh, and a trial that is abandoned leaves it ready.
 use Rattle.std.proofs.Common.{arith}
 use Rattle.tp_search.proofs.HeldFacts.{live-held}
-use Rattle.rows_engines.specs.Trying.{IsReady}
+use Rattle.rows_engines.specs.ReadyBoard.{IsReady}
 use Rattle.rows_engines.proofs.engine_rows.tried_twice.Goals as goal
 use Rattle.rows_engines.proofs.engine_rows.tried_twice.Goals.{After-load}
 

@@ -1,5 +1,5 @@
 use Rattle.std.proofs.Common.{subst, sym}
-use Rattle.tp_schedule.specs.Planning.{CanPlanOn}
+use Rattle.tp_schedule.specs.PlannerAnswers.{CanPlanOn}
 use Rattle.rows_engines.proofs.AskingFacts.{plan_on-none}
 use Rattle.rows_engines.proofs.planned_rows.one_planned.Goals as goal
 

@@ -1,5 +1,5 @@
 use Rattle.std.proofs.Common.{subst, sym}
-use Rattle.tp_schedule.specs.Planning.{CanPlanOn}
+use Rattle.tp_schedule.specs.PlannerAnswers.{CanPlanOn}
 use Rattle.tp_search.specs.Workspaces.{IsSpentOf}
 use Rattle.rows_engines.proofs.SearchFacts.{plan_on-answered}
 use Rattle.rows_engines.proofs.search_rows.answer_new.Goals as goal

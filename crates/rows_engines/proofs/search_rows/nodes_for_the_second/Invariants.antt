@@ -1,5 +1,5 @@
 use Rattle.std.proofs.Common.{◌≤◌}
-use Rattle.tp_placing.specs.Standing.{IsMadeFor}
+use Rattle.tp_placing.specs.LoadedBoard.{IsMadeFor}
 use Rattle.rows_engines.proofs.search_rows.nodes_for_the_second.Given as goal
 
 abbrev pub invariant-rows : goal.invariant-rows

@@ -1,9 +1,9 @@
 -- The stock is kept through the turn of any event.
 use Rattle.std.proofs.Common.{◌≤◌, arith}
-use Rattle.tp_turn.specs.LiveStates.{seen}
-use Rattle.tp_turn.specs.Ready.{last_copy}
-use Rattle.tp_turn.proofs.ReadyTurns.{events-more}
-use Rattle.tp_turn.proofs.StockKept.{stock-more}
+use Rattle.tp_event_rules.specs.LiveStates.{seen}
+use Rattle.tp_event_rules.specs.Ready.{last_copy}
+use Rattle.tp_event_rules.proofs.ReadyTurns.{events-more}
+use Rattle.tp_event_rules.proofs.StockKept.{stock-more}
 use Rattle.rows_trees.proofs.watched.take_line.Goals as goal
 
 pub take_event-requires-clause-can : goal.take_event-requires-clause-can

@@ -1,5 +1,5 @@
 use Rattle.std.proofs.Common.{arith, sym, subst}
-use Rattle.tp_turn.specs.Ready.{CanTakeEvents, KeepsStock}
+use Rattle.tp_event_rules.specs.Ready.{CanTakeEvents, KeepsStock}
 use Rattle.rows_trees.proofs.watched.take_script.Goals as goal
 
 pub lines-init : goal.lines-init

@@ -1,6 +1,6 @@
 use Rattle.std.proofs.Common.{◌≤◌, length}
-use Rattle.tp_turn.specs.LiveStates.{seen}
-use Rattle.tp_turn.specs.Ready.{CanTakeEvents, KeepsStock}
+use Rattle.tp_event_rules.specs.LiveStates.{seen}
+use Rattle.tp_event_rules.specs.Ready.{CanTakeEvents, KeepsStock}
 use Rattle.rows_trees.proofs.watched.take_script.Given as goal
 
 abbrev pub invariant-lines : goal.invariant-lines

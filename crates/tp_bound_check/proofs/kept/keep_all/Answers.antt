@@ -1,7 +1,7 @@
 use Rattle.std.proofs.Common.{◌≡◌, ◌∙◌, ap, sym, cond, Bool, List, ◌++◌, ◌∷◌, [], refl, true, false, ◌||◌}
 use Rattle.std.proofs.lemmas.List.{append-nil}
 use Rattle.tp_schedule.specs.declared.parts.Plan.{Plan}
-use Rattle.tp_schedule.specs.Living.{is_live}
+use Rattle.tp_schedule.specs.LivePlans.{is_live}
 use Rattle.tp_schedule.specs.Plans.{is_same_copy}
 use Rattle.tp_bound_check.proofs.TakeFacts.{live-more}
 use Rattle.tp_bound_check.proofs.kept.keep_all.Goals as goal

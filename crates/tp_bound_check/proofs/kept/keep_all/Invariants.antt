@@ -1,5 +1,5 @@
 use Rattle.std.proofs.Common.{◌≡◌, take}
-use Rattle.tp_trees.specs.Claims.{live_part}
+use Rattle.tp_bound_laws.specs.Claims.{live_part}
 use Rattle.tp_bound_check.proofs.kept.keep_all.Given as goal
 
 abbrev pub invariant-plans : goal.invariant-plans

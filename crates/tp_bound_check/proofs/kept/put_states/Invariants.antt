@@ -1,5 +1,5 @@
 use Rattle.std.proofs.Common.{◌≡◌, ◌++◌, filter, take}
-use Rattle.tp_trees.specs.Places.{is_done_wanted}
+use Rattle.tp_bound_laws.specs.Places.{is_done_wanted}
 use Rattle.tp_bound_check.proofs.kept.put_states.Given as goal
 
 abbrev pub invariant-states : goal.invariant-states

@@ -1,4 +1,4 @@
-use Rattle.tp_farm.proofs.Parting.{farms_part}
+use Rattle.tp_farm.proofs.MachineParts.{farms_part}
 use Rattle.tp_farm.proofs.laws.farms_part.Goals as goal
 
 pub returns : goal.returns

@@ -1,6 +1,6 @@
 use Rattle.tp_headline.proofs.Headline.{order-empty}
 use Rattle.tp_headline.proofs.LawfulLines.{order-turn}
-use Rattle.tp_turn.specs.Planners.{right_steps}
+use Rattle.tp_event_rules.specs.Planners.{right_steps}
 use Rattle.tp_headline.proofs.laws.turns_keep_order.Goals as goal
 
 pub returns-clause-empty : goal.returns-clause-empty

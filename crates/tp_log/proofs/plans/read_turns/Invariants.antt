@@ -1,6 +1,6 @@
 use Rattle.std.proofs.Common.{◌≡◌, ◌+◌, ◌≤◌, length}
 use Rattle.tp_words.specs.Parts.{shown}
-use Rattle.tp_log.specs.Reading.{turns_of}
+use Rattle.tp_log.specs.RecordReaders.{turns_of}
 use Rattle.tp_log.proofs.Turns.{behind}
 use Rattle.tp_log.proofs.plans.read_turns.Given as goal
 

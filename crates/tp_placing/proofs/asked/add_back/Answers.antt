@@ -2,7 +2,7 @@ use Rattle.std.proofs.Common.{◌≡◌, suc, ◌+◌, ◌-◌, ◌++◌, ◌∷
 use Rattle.std.proofs.lemmas.List.{append_assoc, length-append}
 use Rattle.tp_base.proofs.LeastFacts.{earliest-is}
 use Rattle.tp_schedule.specs.Times.{ticks_from}
-use Rattle.tp_placing.specs.Writing.{back_from}
+use Rattle.tp_placing.specs.Commits.{back_from}
 use Rattle.tp_placing.proofs.WriteTimes.{ticks-more}
 use Rattle.tp_placing.proofs.asked.add_back.Goals as goal
 

@@ -1,7 +1,7 @@
 use Rattle.std.proofs.Common.{◌≡◌, ℕ, ◌+◌, ◌++◌, length}
 use Rattle.tp_base.specs.Net.{IsLeast}
 use Rattle.tp_schedule.specs.Times.{ticks_from}
-use Rattle.tp_placing.specs.Writing.{back_from}
+use Rattle.tp_placing.specs.Commits.{back_from}
 use Rattle.tp_placing.proofs.asked.add_back.Given as goal
 
 abbrev pub invariant-loop-at : goal.invariant-loop-at

@@ -1,5 +1,5 @@
 use Rattle.std.proofs.Common.{◌≡◌, ◌++◌, take, flat_map}
-use Rattle.tp_placing.specs.Writing.{opened_by}
+use Rattle.tp_placing.specs.Commits.{opened_by}
 use Rattle.tp_placing.proofs.asked.add_opened.Given as goal
 
 abbrev pub invariant-loop-step : goal.invariant-loop-step

@@ -10,7 +10,7 @@ use Rattle.tp_schedule.specs.Times.{ticks_from}
 use Rattle.tp_schedule.specs.declared.parts.Kind.TheVariants.{Whole}
 use Rattle.tp_constraints.specs.Suffixes.{Suffix}
 use Rattle.tp_placing.specs.Boards.{suffix_after}
-use Rattle.tp_placing.specs.Writing.{back_from, opened}
+use Rattle.tp_placing.specs.Commits.{back_from, opened}
 use Rattle.tp_placing.proofs.StandFacts.{some-and}
 use Rattle.tp_placing.proofs.WriteAsked.{acts-taken}
 use Rattle.tp_placing.proofs.WritePoints.{least-of_plans, plan-points}

@@ -1,7 +1,7 @@
 use Rattle.std.proofs.Common.{◌∙◌, ◌+◌, ◌≤◌, [], ◌∷◌, refl, sym, ap, arith, ◌++◌, length, append-nil, vec_len, vec_capacity}
 use Rattle.std.proofs.lemmas.List.{length-append, length_push}
 use Rattle.tp_timelines.specs.Orders.{order_on}
-use Rattle.tp_placing.specs.Loading.{chain_causes, holds_on}
+use Rattle.tp_placing.specs.LoadedNet.{chain_causes, holds_on}
 use Rattle.tp_placing.proofs.LoadEdges.{first-fits, rest-left}
 use Rattle.tp_placing.proofs.LoadChains.{two-read, edges-read, causes-read, cause-fits, none-left}
 use Rattle.tp_placing.proofs.kept_chains.add_chain.Goals as goal

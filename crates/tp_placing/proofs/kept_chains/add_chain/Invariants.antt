@@ -1,5 +1,5 @@
 use Rattle.std.proofs.Common.{◌≡◌, ◌≤◌, ◌-◌, ◌++◌, drop, length, vec_capacity}
-use Rattle.tp_placing.specs.Loading.{chain_causes, chain_edges, holds_on}
+use Rattle.tp_placing.specs.LoadedNet.{chain_causes, chain_edges, holds_on}
 use Rattle.tp_placing.proofs.kept_chains.add_chain.Given as goal
 
 abbrev pub invariant-loop-place : goal.invariant-loop-place

@@ -1,6 +1,6 @@
 use Rattle.std.proofs.Common.{◌∙◌, ◌-◌, ◌++◌, refl, sym, ap, arith, length}
 use Rattle.std.proofs.lemmas.List.{append_assoc, length-append}
-use Rattle.tp_placing.specs.Loading.{chain_causes, chains_causes, holds_on}
+use Rattle.tp_placing.specs.LoadedNet.{chain_causes, chains_causes, holds_on}
 use Rattle.tp_placing.proofs.LoadEdges.{first-fits, rest-left}
 use Rattle.tp_placing.proofs.LoadChains.{chains-more, causes-more}
 use Rattle.tp_placing.proofs.kept_chains.add_chains.Goals as goal

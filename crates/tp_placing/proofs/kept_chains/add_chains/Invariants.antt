@@ -1,5 +1,5 @@
 use Rattle.std.proofs.Common.{◌≡◌, ◌≤◌, ◌++◌, length, vec_capacity}
-use Rattle.tp_placing.specs.Loading.{chains_causes, chains_edges, holds_on}
+use Rattle.tp_placing.specs.LoadedNet.{chains_causes, chains_edges, holds_on}
 use Rattle.tp_placing.proofs.kept_chains.add_chains.Given as goal
 
 abbrev pub invariant-loop-left : goal.invariant-loop-left

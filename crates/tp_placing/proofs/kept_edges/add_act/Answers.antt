@@ -2,8 +2,8 @@ use Rattle.std.proofs.Common.{◌≡◌, ◌∙◌, ◌<◌, List, [], ◌∷◌
 use Rattle.std.proofs.lemmas.List.{append_assoc}
 use Rattle.std.proofs.lemmas.Option.{slice_get_past, slice_get_read}
 use Rattle.tp_base.specs.declared.edges.Edge.{Edge}
-use Rattle.tp_machine.specs.Using.{action_at}
-use Rattle.tp_placing.specs.Loading.{act_edges}
+use Rattle.tp_machine.specs.ModuleUse.{action_at}
+use Rattle.tp_placing.specs.LoadedNet.{act_edges}
 use Rattle.tp_placing.proofs.kept_edges.add_act.Goals as goal
 
 two-pushed : (xs ys zs both : List Edge) (x y d : Edge) → both ≡ x ∷ y ∷ [] → ys ≡ xs ++ get_or both 0 d ∷ [] → zs ≡ ys ++ get_or both 1 d ∷ [] → zs ≡ xs ++ x ∷ y ∷ []

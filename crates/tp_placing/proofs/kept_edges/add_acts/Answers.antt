@@ -1,6 +1,6 @@
 use Rattle.std.proofs.Common.{arith}
 use Rattle.std.proofs.lemmas.List.{at_drop_more}
-use Rattle.tp_placing.specs.Loading.{acts_edges}
+use Rattle.tp_placing.specs.LoadedNet.{acts_edges}
 use Rattle.tp_placing.proofs.LoadEdges.{first-fits, rest-left}
 use Rattle.tp_placing.proofs.kept_edges.add_acts.Goals as goal
 

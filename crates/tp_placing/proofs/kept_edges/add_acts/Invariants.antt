@@ -1,5 +1,5 @@
 use Rattle.std.proofs.Common.{◌≡◌, ◌≤◌, ◌+◌, ◌++◌, drop, vec_capacity}
-use Rattle.tp_placing.specs.Loading.{acts_edges}
+use Rattle.tp_placing.specs.LoadedNet.{acts_edges}
 use Rattle.tp_placing.proofs.kept_edges.add_acts.Given as goal
 
 abbrev pub invariant-loop-act : goal.invariant-loop-act

@@ -1,5 +1,5 @@
 use Rattle.std.proofs.Common.{ap, arith}
-use Rattle.tp_placing.specs.Loading.{plans_edges, point_count}
+use Rattle.tp_placing.specs.LoadedNet.{plans_edges, point_count}
 use Rattle.tp_placing.proofs.LoadEdges.{first-fits, rest-left, drop-read}
 use Rattle.tp_placing.proofs.kept_edges.add_durations.Goals as goal
 

@@ -1,5 +1,5 @@
 use Rattle.std.proofs.Common.{◌≡◌, ◌≤◌, ◌+◌, ◌++◌, drop, vec_capacity}
-use Rattle.tp_placing.specs.Loading.{plans_edges, point_count}
+use Rattle.tp_placing.specs.LoadedNet.{plans_edges, point_count}
 use Rattle.tp_placing.proofs.kept_edges.add_durations.Given as goal
 
 abbrev pub invariant-loop-plan : goal.invariant-loop-plan

@@ -1,6 +1,6 @@
 use Rattle.std.proofs.Common.{◌+◌, ap, arith}
 use Rattle.std.proofs.lemmas.List.{take_rest}
-use Rattle.tp_placing.specs.Loading.{lines_edges, point_count}
+use Rattle.tp_placing.specs.LoadedNet.{lines_edges, point_count}
 use Rattle.tp_placing.proofs.LoadEdges.{first-fits, rest-left, drop-read}
 use Rattle.tp_placing.proofs.kept_edges.add_lines.Goals as goal
 

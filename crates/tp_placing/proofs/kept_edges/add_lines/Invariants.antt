@@ -1,5 +1,5 @@
 use Rattle.std.proofs.Common.{◌≡◌, ◌≤◌, ◌+◌, ◌++◌, drop, vec_capacity}
-use Rattle.tp_placing.specs.Loading.{lines_edges, point_count}
+use Rattle.tp_placing.specs.LoadedNet.{lines_edges, point_count}
 use Rattle.tp_placing.proofs.kept_edges.add_lines.Given as goal
 
 abbrev pub invariant-loop-at : goal.invariant-loop-at

@@ -1,5 +1,5 @@
 use Rattle.std.proofs.Common.{◌≡◌, ◌+◌, drop}
-use Rattle.tp_placing.specs.Loading.{next_end, point_count}
+use Rattle.tp_placing.specs.LoadedNet.{next_end, point_count}
 use Rattle.tp_placing.proofs.kept_edges.end_of_next.Given as goal
 
 abbrev pub invariant-loop-other : goal.invariant-loop-other

@@ -1,6 +1,6 @@
 use Rattle.std.proofs.Common.{◌++◌, [], append-nil, refl, sym, length, arith}
 use Rattle.tp_placing.specs.Causes.{step_causes}
-use Rattle.tp_placing.specs.Loading.{plans_edges, lines_edges, chains_edges, holds_on}
+use Rattle.tp_placing.specs.LoadedNet.{plans_edges, lines_edges, chains_edges, holds_on}
 use Rattle.tp_placing.proofs.LoadEdges.{first-fits, rest-left}
 use Rattle.tp_placing.proofs.kept_plans.add_edges.Goals as goal
 

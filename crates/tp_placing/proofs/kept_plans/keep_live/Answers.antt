@@ -1,5 +1,5 @@
 use Rattle.std.proofs.Common.{◌∙◌, sym, arith}
-use Rattle.tp_schedule.specs.Living.{is_live}
+use Rattle.tp_schedule.specs.LivePlans.{is_live}
 use Rattle.tp_placing.proofs.LiveFacts.{keep-passed, keep-failed, keep-fits}
 use Rattle.tp_placing.proofs.kept_plans.keep_live.Goals.{then-is_live+in-Ok, else-is_live}
 use Rattle.tp_placing.proofs.kept_plans.keep_live.Goals as goal

@@ -1,5 +1,5 @@
 use Rattle.std.proofs.Common.{◌≡◌, ◌≤◌, ◌++◌, drop, filter, vec_capacity}
-use Rattle.tp_schedule.specs.Living.{is_live}
+use Rattle.tp_schedule.specs.LivePlans.{is_live}
 use Rattle.tp_placing.proofs.kept_plans.keep_live.Given as goal
 
 abbrev pub invariant-loop-at : goal.invariant-loop-at

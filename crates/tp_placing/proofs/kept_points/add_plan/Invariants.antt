@@ -3,7 +3,7 @@ use Rattle.tp_base.specs.Net.{HasLeast}
 use Rattle.tp_base.specs.Readings.{IsSameSize}
 use Rattle.tp_schedule.specs.Times.{ticks_from}
 use Rattle.tp_constraints.specs.Gaps.{low_of, cap_of}
-use Rattle.tp_placing.specs.Loading.{with_bounds}
+use Rattle.tp_placing.specs.LoadedNet.{with_bounds}
 use Rattle.tp_placing.proofs.kept_points.add_plan.Given as goal
 
 abbrev pub invariant-loop-at : goal.invariant-loop-at

@@ -1,7 +1,7 @@
 use Rattle.std.proofs.Common.{◌∙◌, ◌+◌, ◌++◌, List, length, sym, ap, arith, drop}
 use Rattle.tp_base.specs.declared.edges.PointId.{PointId}
 use Rattle.tp_schedule.specs.declared.parts.Plan.{Plan}
-use Rattle.tp_placing.specs.Loading.{with_plans, firsts_from, point_count}
+use Rattle.tp_placing.specs.LoadedNet.{with_plans, firsts_from, point_count}
 use Rattle.tp_placing.proofs.LoadEdges.{drop-read}
 use Rattle.tp_placing.proofs.LoadPoints.{plans-more, plan-count, firsts-more}
 use Rattle.tp_placing.proofs.ReadingFacts.{same-size-then}

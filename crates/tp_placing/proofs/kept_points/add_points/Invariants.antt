@@ -1,7 +1,7 @@
 use Rattle.std.proofs.Common.{◌≡◌, ◌≤◌, ◌+◌, ◌++◌, drop, length, vec_len, vec_capacity}
 use Rattle.tp_base.specs.Net.{HasLeast}
 use Rattle.tp_base.specs.Readings.{IsSameSize}
-use Rattle.tp_placing.specs.Loading.{with_plans, firsts_from, point_count}
+use Rattle.tp_placing.specs.LoadedNet.{with_plans, firsts_from, point_count}
 use Rattle.tp_placing.proofs.kept_points.add_points.Given as goal
 
 -- what is left makes all

@@ -5,7 +5,7 @@ use Rattle.std.specs.Vec.{vec_len}
 use Rattle.tp_command.specs.App.{seen}
 use Rattle.tp_farm.specs.Lists.{IsFileName, names_of}
 use Rattle.tp_words.specs.Parts.{shown}
-use Rattle.tp_program.specs.Farming.{NoMachines}
+use Rattle.tp_program.specs.FarmEnds.{NoMachines}
 use Rattle.tp_program.proofs.FarmingFacts.{amiss_list, as-many, farm-for, is-listed, no_farm}
 use Rattle.tp_program.proofs.machines.find_farm.Goals as goal
 

@@ -3,7 +3,7 @@ use Rattle.std.proofs.Common.{◌≡◌, ◌+◌, ◌<◌, [], ◌∷◌, ◌++�
 use Rattle.std.specs.List.{AllZip}
 use Rattle.tp_outside.proofs.Parts.{IsCounted-more}
 use Rattle.tp_words.specs.Parts.{shown}
-use Rattle.tp_program.specs.Farming.{BeginsOn}
+use Rattle.tp_program.specs.FarmEnds.{BeginsOn}
 use Rattle.tp_program.proofs.FarmingFacts.{All-pushed, machines-amiss, machines-refused, map-pushed, one-begins, stays-more}
 use Rattle.tp_program.proofs.machines.find_sessions.Goals as goal
 

@@ -3,7 +3,7 @@ use Rattle.std.specs.List.{All, AllZip}
 use Rattle.std.specs.Prelude.{IfSome}
 use Rattle.tp_outside.specs.Outside.{IsCounted}
 use Rattle.tp_words.specs.Parts.{shown}
-use Rattle.tp_program.specs.Farming.{BeginsOn}
+use Rattle.tp_program.specs.FarmEnds.{BeginsOn}
 use Rattle.tp_program.proofs.machines.find_sessions.Given as goal
 
 abbrev pub invariant-loop-place : goal.invariant-loop-place

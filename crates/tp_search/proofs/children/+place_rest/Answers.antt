@@ -1,13 +1,13 @@
 use Rattle.std.proofs.Common.{◌≡◌, suc, length-set, ◌∙◌, ap, subst, sym, ◌+◌, ◌-◌, ◌<◌, ◌∷◌, length, set, take, length-take-le, arith, IsSomeAnd}
 use Rattle.std.specs.Prelude.{slice_get}
-use Rattle.tp_machine.specs.Using.{action_at}
-use Rattle.tp_schedule.specs.Holding.{holds_of_act}
+use Rattle.tp_machine.specs.ModuleUse.{action_at}
+use Rattle.tp_schedule.specs.Holders.{holds_of_act}
 use Rattle.tp_placing.specs.Boards.{suffix_of}
 use Rattle.tp_placing.specs.Calls.{CanPlace}
 use Rattle.tp_search.specs.Boards.{HasMarks, IsBack, IsLaid}
 use Rattle.tp_search.specs.Children.{IsNewChild}
-use Rattle.tp_search.specs.Opening.{IsAtProgress}
-use Rattle.tp_search.specs.Opening.Progress.{through, up_to}
+use Rattle.tp_search.specs.OpenedLists.{IsAtProgress}
+use Rattle.tp_search.specs.OpenedLists.Progress.{through, up_to}
 use Rattle.tp_search.specs.Stored.{choices_by}
 use Rattle.tp_pool.specs.Entries.{choices_before}
 use Rattle.tp_search.proofs.BoardSteps.{back-itself, back-trans, mark-known, since-step}

@@ -1,9 +1,9 @@
 use Rattle.std.proofs.Common.{◌∷◌, [], ◌++◌, ◌-◌, length, take}
-use Rattle.tp_machine.specs.Using.{action_at}
-use Rattle.tp_schedule.specs.Holding.{holds_of_act}
+use Rattle.tp_machine.specs.ModuleUse.{action_at}
+use Rattle.tp_schedule.specs.Holders.{holds_of_act}
 use Rattle.tp_search.specs.Boards.{IsBack}
-use Rattle.tp_search.specs.Opening.{IsAtProgress, IsSameOpening}
-use Rattle.tp_search.specs.Opening.Progress.{up_to}
+use Rattle.tp_search.specs.OpenedLists.{IsAtProgress, IsSameOpening}
+use Rattle.tp_search.specs.OpenedLists.Progress.{up_to}
 use Rattle.tp_search.proofs.children.+place_rest.Given as goal
 
 -- how many holds are left

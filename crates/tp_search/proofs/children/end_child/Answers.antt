@@ -1,12 +1,12 @@
 use Rattle.std.proofs.Common.{◌≡◌, ℕ, ◌≤◌, Option, None, Some, ap, IsTrue, ◌∷◌, length, List, take, length-take-le, sym, subst, ◌∙◌, refl, arith}
 use Rattle.std.proofs.lemmas.Bool.{both_ways}
-use Rattle.tp_machine.specs.Using.{action_at}
+use Rattle.tp_machine.specs.ModuleUse.{action_at}
 use Rattle.tp_pool.specs.Entries.{IsParentOf, choices_before}
 use Rattle.tp_schedule.specs.Choices.{Choice}
-use Rattle.tp_schedule.specs.Holding.{holds_of_act}
+use Rattle.tp_schedule.specs.Holders.{holds_of_act}
 use Rattle.tp_search.specs.Limits.{IsMetLimit}
-use Rattle.tp_search.specs.Opening.{IsAtProgress, IsSameOpening}
-use Rattle.tp_search.specs.Opening.Progress.{through, up_to}
+use Rattle.tp_search.specs.OpenedLists.{IsAtProgress, IsSameOpening}
+use Rattle.tp_search.specs.OpenedLists.Progress.{through, up_to}
 use Rattle.tp_search.specs.Stored.{choice_with, choices_by}
 use Rattle.tp_search.specs.Stores.{IsInRange, StoreGrows, StoreValue, after_keep}
 use Rattle.tp_search.proofs.BoardSteps.{back-trans, laid-back}

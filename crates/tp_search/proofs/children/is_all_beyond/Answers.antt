@@ -6,7 +6,7 @@ use Rattle.tp_schedule.specs.Spots.Spot.{own}
 use Rattle.tp_constraints.specs.Suffixes.{SuffixTimes, with_place}
 use Rattle.tp_placing.specs.Boards.{BoardValue, suffix_of}
 use Rattle.tp_placing.specs.Calls.{CanPlace, IsSameLoad}
-use Rattle.tp_placing.specs.Walking.{EndsAfterUpTo}
+use Rattle.tp_placing.specs.RefusedPlace.{EndsAfterUpTo}
 use Rattle.tp_search.proofs.BoardSteps.{IsMarked, load-of, mark-back, mark-known, suffix-back}
 use Rattle.tp_search.proofs.children.is_all_beyond.Goals as goal
 use Rattle.tp_search.proofs.children.is_all_beyond.Goals.{After-mark-mark}

@@ -1,8 +1,8 @@
 use Rattle.std.proofs.Common.{◌≡◌, [], sym, subst}
 use Rattle.tp_pool.specs.Entries.{choices_before}
 use Rattle.tp_search.specs.Boards.{IsLaid}
-use Rattle.tp_search.specs.Opening.{IsAtProgress}
-use Rattle.tp_search.specs.Opening.Progress.{through, up_to}
+use Rattle.tp_search.specs.OpenedLists.{IsAtProgress}
+use Rattle.tp_search.specs.OpenedLists.Progress.{through, up_to}
 use Rattle.tp_search.specs.Stored.{choices_by}
 use Rattle.tp_search.proofs.ActSteps.{IsActed, act-late, act-shut, acted-as, acted-late, acted-placed}
 use Rattle.tp_search.proofs.BoardSteps.{IsMarked, laid-action, laid-marked, load-of, since-step, taken-back}

@@ -4,10 +4,10 @@ use Rattle.tp_schedule.specs.Answers.{kept_of}
 use Rattle.tp_routes.specs.Index.{IsNextTo, NoneTo}
 use Rattle.tp_search.specs.Boards.{IsLaid}
 use Rattle.tp_search.specs.Children.{HasFound}
-use Rattle.tp_search.specs.Opening.{IsAtProgress}
-use Rattle.tp_search.specs.Opening.Progress.{up_to}
+use Rattle.tp_search.specs.OpenedLists.{IsAtProgress}
+use Rattle.tp_search.specs.OpenedLists.Progress.{up_to}
 use Rattle.tp_search.specs.Stored.{choices_by}
-use Rattle.tp_ways.specs.Ways.{IsPlaced}
+use Rattle.tp_constraints.specs.Ways.{IsPlaced}
 use Rattle.tp_search.proofs.ActSteps.{laid-at_most, opening-full_list}
 use Rattle.tp_search.proofs.BoardSteps.{back-trans, laid-back}
 use Rattle.tp_search.proofs.FurtherFacts.{found-further, further-back}

@@ -1,6 +1,6 @@
 use Rattle.std.proofs.Common.{length}
 use Rattle.tp_search.specs.Boards.{IsBack}
-use Rattle.tp_search.specs.Opening.{IsSameOpening}
+use Rattle.tp_search.specs.OpenedLists.{IsSameOpening}
 use Rattle.tp_routes.proofs.AlongFacts.{ahead}
 use Rattle.tp_search.proofs.LeadFacts.{IsLed, number}
 use Rattle.tp_search.proofs.children.open_all.Given as goal

@@ -1,8 +1,8 @@
 -- A dive that comes to nothing leaves the board as it was.
 use Rattle.std.proofs.Common.{length, ap, subst, sym, arith}
 use Rattle.tp_pool.specs.Entries.{choices_before}
-use Rattle.tp_search.specs.Opening.{IsAtProgress}
-use Rattle.tp_search.specs.Opening.Progress.{nothing}
+use Rattle.tp_search.specs.OpenedLists.{IsAtProgress}
+use Rattle.tp_search.specs.OpenedLists.Progress.{nothing}
 use Rattle.tp_search.specs.Stored.{choices_by}
 use Rattle.tp_search.proofs.BoardSteps.{laid-back}
 use Rattle.tp_search.proofs.children.open_list.Goals as goal

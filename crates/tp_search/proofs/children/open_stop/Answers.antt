@@ -7,11 +7,11 @@ use Rattle.tp_pool.specs.declared.choice.Choice.{Choice as Stored}
 use Rattle.tp_schedule.specs.Spots.Spot.{own}
 use Rattle.tp_constraints.specs.Suffixes.{with_stop}
 use Rattle.tp_placing.specs.Boards.{suffix_of}
-use Rattle.tp_placing.specs.Standing.{Stands}
+use Rattle.tp_placing.specs.LoadedBoard.{Stands}
 use Rattle.tp_placing.specs.Ticks.{HasLeastTick}
 use Rattle.tp_search.specs.Boards.{IsLaid}
-use Rattle.tp_search.specs.Opening.{IsAtProgress, IsSameOpening}
-use Rattle.tp_search.specs.Opening.Progress.{nothing, up_to}
+use Rattle.tp_search.specs.OpenedLists.{IsAtProgress, IsSameOpening}
+use Rattle.tp_search.specs.OpenedLists.Progress.{nothing, up_to}
 use Rattle.tp_search.specs.Stored.{choices_by}
 use Rattle.tp_search.specs.Stores.{IsInRange, after_keep}
 use Rattle.tp_search.proofs.BoardSteps.{IsMarked, laid-marked, load-of, since-step, taken-back}

@@ -1,6 +1,6 @@
 -- The only goal is open, and its list stays on the board, or it isn't.
 use Rattle.std.proofs.Common.{[], ◌∷◌, ◌++◌, ◌∙◌, length, ap, sym, subst, arith}
-use Rattle.tp_search.specs.Searching.{AreOpenGoals}
+use Rattle.tp_search.specs.SearchProgress.{AreOpenGoals}
 use Rattle.tp_search.proofs.GoalFacts.{goal-alone, goal-none}
 use Rattle.tp_search.proofs.goals.find_finished.Goals as goal
 

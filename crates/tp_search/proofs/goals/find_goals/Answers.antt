@@ -4,7 +4,7 @@ use Rattle.std.proofs.lemmas.List.Elements.{All-contains}
 use Rattle.tp_machine.specs.Machines.{IsLocation}
 use Rattle.tp_machine.specs.declared.parts.State.{State}
 use Rattle.tp_machine.proofs.MachineFacts.{is_machine}
-use Rattle.tp_schedule.specs.Planning.{IsKnownGoal}
+use Rattle.tp_schedule.specs.PlannerAnswers.{IsKnownGoal}
 use Rattle.tp_schedule.specs.Routes.{IsGoalState}
 use Rattle.tp_search.proofs.goals.find_goals.Goals as goal
 

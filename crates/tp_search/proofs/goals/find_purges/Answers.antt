@@ -1,7 +1,7 @@
 use Rattle.std.proofs.Common.{◌≡◌, ◌+◌, ◌*◌, ◌/◌, ap, ◌≤◌, ◌∷◌, ◌++◌, [], length, vec_capacity, sym, subst, ◌∙◌, arith}
 use Rattle.tp_machine.specs.declared.parts.State.{State}
 use Rattle.tp_schedule.specs.Choices.{IsBound, IsOpen, going}
-use Rattle.tp_search.specs.Searching.{list_of_goal}
+use Rattle.tp_search.specs.SearchProgress.{list_of_goal}
 use Rattle.tp_search.proofs.BoardSteps.{back-trans, ready-back}
 use Rattle.tp_search.proofs.GoalFacts.{AreGoalsBelow, goals-all, goals-push, goals-skip}
 use Rattle.tp_search.proofs.goals.find_purges.Goals as goal

@@ -3,15 +3,15 @@ use Rattle.std.proofs.Common.{[], None, IsSomeAnd, refl, sym, subst, ◌∙◌}
 use Rattle.tp_schedule.specs.Choices.{IsBound, IsOpen, going}
 use Rattle.tp_constraints.specs.Suffixes.{with_goal}
 use Rattle.tp_placing.specs.Calls.{IsSameLoad}
-use Rattle.tp_placing.specs.Standing.{Stands}
-use Rattle.tp_search.specs.Following.{HasList, IsSameButSteps, IsWayTo}
-use Rattle.tp_search.specs.Holding.{IsLaidSince}
+use Rattle.tp_placing.specs.LoadedBoard.{Stands}
+use Rattle.tp_search.specs.StoredLists.{HasList, IsSameButSteps, IsWayTo}
+use Rattle.tp_search.specs.HeldLists.{IsLaidSince}
 use Rattle.tp_search.proofs.BoardSteps.{IsMarked, back-itself, load-of, load-trans}
 use Rattle.tp_search.proofs.GoalSteps.{goal-bound, goal-refused, goal-shut}
 use Rattle.tp_search.proofs.HoldFacts.{since-known, since-mark, since-more, since-undone}
 use Rattle.tp_search.proofs.goals.open_at.Goals as goal
 use Rattle.tp_search.proofs.goals.open_at.Goals.{After-mark-base, After-open_goal}
-use Rattle.tp_ways.proofs.WaySteps.{goal-way}
+use Rattle.tp_constraints.proofs.WaySteps.{goal-way}
 
 stands : (g : _) (c : After-mark-base g) → Stands g.N.Network.reading c.mark-base.new.self c.args.problem.machine.now
 stands g c = (let m = c.mark-base.ensures in c.marks_keep_boards.ensures.mark c.args.board.now c.mark-base.new.self c.args.problem.machine.now m.content m.untouched m.past c.requires.ready.stands)

@@ -2,17 +2,17 @@
 use Rattle.std.proofs.Common.{◌≡◌, ℕ, Bool, true, false, List, [], ◌∷◌, ◌++◌, refl, ap, ◌∙◌, append_assoc}
 use Rattle.tp_bounds.specs.declared.tree.BoundTree.{BoundTree}
 use Rattle.tp_machine.specs.declared.machine.Machine.{Machine}
-use Rattle.tp_runs.specs.Runs.{tree_claims}
-use Rattle.tp_schedule.specs.Planning.{Deed}
-use Rattle.tp_schedule.specs.Planning.Deed.{replied, settled}
+use Rattle.tp_run_laws.specs.Runs.{tree_claims}
+use Rattle.tp_schedule.specs.PlannerAnswers.{Deed}
+use Rattle.tp_schedule.specs.PlannerAnswers.Deed.{replied, settled}
 use Rattle.tp_schedule.specs.declared.parts.Ask.{Ask}
 use Rattle.tp_schedule.specs.declared.parts.Plan.{Plan}
 use Rattle.tp_schedule.specs.declared.parts.Reply.{Reply}
 use Rattle.tp_schedule.specs.declared.parts.Reply.TheVariants.{Planned, Never, Spent}
 use Rattle.tp_search.specs.Engines.{HasFewLists, KeepsTrees}
-use Rattle.tp_turn.specs.Logs.{TakesTrees}
-use Rattle.tp_turning.specs.LiveAnswers.{CanAskLive, IsAnswerOnWhole, live_at, spent_of}
-use Rattle.tp_turning.proofs.LiveAnswered.{few-on}
+use Rattle.tp_event_rules.specs.Logs.{TakesTrees}
+use Rattle.tp_event_turn.specs.LiveAnswers.{CanAskLive, IsAnswerOnWhole, live_at, spent_of}
+use Rattle.tp_event_turn.proofs.LiveAnswered.{few-on}
 use Rattle.tp_session.proofs.ShownTrees.{trees-on}
 use Rattle.tp_session.proofs.laws.engines_answer_alone.Goals as goal
 

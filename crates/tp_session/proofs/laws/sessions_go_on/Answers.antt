@@ -1,5 +1,5 @@
 use Rattle.std.specs.Prelude.{true, unwrap_or}
-use Rattle.tp_runs.proofs.Lawful.{whole-empty}
+use Rattle.tp_run_laws.proofs.Lawful.{whole-empty}
 use Rattle.tp_session.proofs.GoesOn.{events_from, told-whole}
 use Rattle.tp_session.proofs.Lawfully.{scripts_from, stops_from}
 use Rattle.tp_session.proofs.laws.sessions_go_on.Goals as goal

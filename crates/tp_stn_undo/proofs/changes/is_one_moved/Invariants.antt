@@ -1,5 +1,5 @@
 use Rattle.std.proofs.Common.{ℕ, ◌<◌, get_or}
-use Rattle.tp_stn_undo.specs.declared.states.SavedState.{SavedState}
+use Rattle.tp_stn_undo.specs.declared.point_state.SavedState.{SavedState}
 use Rattle.tp_stn_undo.proofs.TimeFacts.{IsOfNow}
 use Rattle.tp_stn_undo.proofs.changes.is_one_moved.Given as goal
 

@@ -1,6 +1,6 @@
 use Rattle.std.proofs.Common.{arith, drop}
 use Rattle.std.proofs.lemmas.List.{length-map, length-drop}
-use Rattle.tp_stn_undo.specs.declared.states.SavedState.{SavedState}
+use Rattle.tp_stn_undo.specs.declared.point_state.SavedState.{SavedState}
 use Rattle.tp_stn_undo.specs.Flags.{points_in}
 use Rattle.tp_stn_undo.proofs.FlagFacts.{held_few}
 use Rattle.tp_stn_undo.proofs.changes.make_short.Goals as goal

@@ -1,8 +1,8 @@
 use Rattle.std.proofs.Common.{◌≡◌, ◌∙◌, ap, sym, subst, cond, Bool, ℕ, Option, Some, None}
 use Rattle.std.specs.List.{slice_get}
-use Rattle.tp_machine.specs.Using.{action_at}
+use Rattle.tp_machine.specs.ModuleUse.{action_at}
 use Rattle.tp_machine.specs.declared.parts.State.{State}
-use Rattle.tp_trees.specs.Places.{state_before}
+use Rattle.tp_bound_laws.specs.Places.{state_before}
 use Rattle.tp_bound_check.proofs.TakeFacts.{before-found, allowed-is}
 use Rattle.tp_bound_check.proofs.orders.CheckScene.before.Goals as goal
 

@@ -1,6 +1,6 @@
 use Rattle.std.proofs.Common.{◌∙◌, sym, subst, Option, drop}
-use Rattle.tp_trees.specs.Flaws.{IsFlawOf, bad_node_from}
-use Rattle.tp_trees.specs.declared.claim.TreeFlaw.{TreeFlaw}
+use Rattle.tp_bound_laws.specs.Flaws.{IsFlawOf, bad_node_from}
+use Rattle.tp_bound_laws.specs.declared.claim.TreeFlaw.{TreeFlaw}
 use Rattle.tp_bound_check.specs.Looks.{due_on}
 use Rattle.tp_bound_check.proofs.NodeFacts.{node-on, node-bad}
 use Rattle.tp_bound_check.proofs.orders.CheckScene.check_nodes.Goals as goal

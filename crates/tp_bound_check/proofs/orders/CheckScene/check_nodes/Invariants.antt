@@ -1,6 +1,6 @@
 use Rattle.std.proofs.Common.{◌≡◌, ◌≤◌, drop, map, vec_capacity}
-use Rattle.tp_trees.specs.Flaws.{bad_node_from}
-use Rattle.tp_trees.specs.Places.Due.{goal as goal_due}
+use Rattle.tp_bound_laws.specs.Flaws.{bad_node_from}
+use Rattle.tp_bound_laws.specs.Places.Due.{goal as goal_due}
 use Rattle.tp_bound_check.specs.Looks.{due_on, IsSoundStack}
 use Rattle.tp_bound_check.specs.Ranks.{AreRankedFrames}
 use Rattle.tp_bound_check.proofs.orders.CheckScene.check_nodes.Given as goal

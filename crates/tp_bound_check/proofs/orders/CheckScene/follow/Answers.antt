@@ -1,7 +1,7 @@
 use Rattle.std.proofs.Common.{◌∙◌, sym, ap, arith, ◌<◌, ◌^◌, ◌+◌, drop}
 use Rattle.tp_schedule.specs.Spots.{Spot}
 use Rattle.std.specs.Prelude.{ℤ, ◌+ℤ◌}
-use Rattle.tp_trees.specs.Chains.{follow, Led}
+use Rattle.tp_bound_laws.specs.Chains.{follow, Led}
 use Rattle.tp_bound_check.proofs.FollowFacts.{follow-on, follow-lost, least-on, most-on, least-fits, most-fits}
 use Rattle.tp_bound_check.proofs.orders.CheckScene.follow.Goals as goal
 

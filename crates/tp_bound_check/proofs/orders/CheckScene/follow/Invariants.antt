@@ -1,6 +1,6 @@
 use Rattle.std.proofs.Common.{◌≡◌, ◌*◌, ◌+◌, drop, ◌^◌}
 use Rattle.std.specs.Prelude.{pos, ◌≤ℤ◌, neg_ℤ}
-use Rattle.tp_trees.specs.Chains.{follow}
+use Rattle.tp_bound_laws.specs.Chains.{follow}
 use Rattle.tp_bound_check.proofs.orders.CheckScene.follow.Given as goal
 
 abbrev pub invariant-hops : goal.invariant-hops

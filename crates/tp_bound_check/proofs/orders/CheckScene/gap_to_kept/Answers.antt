@@ -1,6 +1,6 @@
 use Rattle.std.proofs.Common.{◌∙◌, ap, sym, ℕ, Option, Some}
-use Rattle.tp_trees.specs.Chains.{resource_gap}
-use Rattle.tp_trees.specs.Places.{Span, Stand}
+use Rattle.tp_bound_laws.specs.Chains.{resource_gap}
+use Rattle.tp_bound_laws.specs.Places.{Span, Stand}
 use Rattle.tp_bound_check.proofs.orders.CheckScene.gap_to_kept.Goals as goal
 
 pub returns-then-start-count : goal.returns-then-start-count

@@ -1,6 +1,6 @@
 use Rattle.std.proofs.Common.{◌∙◌, ◌+◌, ◌<◌, ◌≤◌, [], ap, drop, length, map, Bool}
 use Rattle.std.proofs.lemmas.Bool.{leb-true, ltb-true}
-use Rattle.tp_trees.specs.Places.Due.{goal as goal_due, places, stop}
+use Rattle.tp_bound_laws.specs.Places.Due.{goal as goal_due, places, stop}
 use Rattle.tp_bound_check.specs.Looks.{acts_at, dues_of}
 use Rattle.tp_bound_check.specs.declared.dues.Frame.TheVariants.{Acts}
 use Rattle.tp_bound_check.proofs.LinkFacts.{some-at}

@@ -1,7 +1,7 @@
 use Rattle.std.proofs.Common.{◌≡◌, ◌∙◌, subst, ap, List, Some, None, position}
 use Rattle.std.specs.Str.{bytes_eq}
 use Rattle.tp_machine.specs.declared.parts.Resource.{Resource}
-use Rattle.tp_trees.specs.Chains.{hold_gap}
+use Rattle.tp_bound_laws.specs.Chains.{hold_gap}
 use Rattle.tp_bound_check.proofs.orders.CheckScene.hold_gap.Goals as goal
 
 pub returns-in-Some : goal.returns-in-Some

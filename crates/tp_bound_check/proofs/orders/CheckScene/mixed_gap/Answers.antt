@@ -3,7 +3,7 @@ use Rattle.tp_constraints.specs.Gaps.{slot_gap}
 use Rattle.tp_constraints.specs.Suffixes.{with_goal}
 use Rattle.tp_machine.specs.Modes.{gap_at}
 use Rattle.tp_schedule.specs.Spots.{slot_order}
-use Rattle.tp_trees.proofs.ApartStarts.{starts-apart}
+use Rattle.tp_bound_laws.proofs.ApartStarts.{starts-apart}
 use Rattle.tp_bound_check.specs.Founds.{slot_before, slot_behind}
 use Rattle.tp_bound_check.proofs.RankFacts.{kept-first, own-first}
 use Rattle.tp_bound_check.proofs.orders.CheckScene.mixed_gap.Goals as goal

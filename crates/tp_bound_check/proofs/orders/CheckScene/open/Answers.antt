@@ -1,8 +1,8 @@
 use Rattle.std.proofs.Common.{◌∙◌, ap, sym, refl, cond, Bool, Some, None, ltb, ◌+◌, ◌++◌, length}
 use Rattle.tp_schedule.specs.Answers.{kept_of}
-use Rattle.tp_trees.specs.Places.{is_begun, stop_due, actions_due}
-use Rattle.tp_trees.specs.Trees.{split_look}
-use Rattle.tp_trees.specs.Trees.Look.{due}
+use Rattle.tp_bound_laws.specs.Places.{is_begun, stop_due, actions_due}
+use Rattle.tp_bound_laws.specs.Trees.{split_look}
+use Rattle.tp_bound_laws.specs.Trees.Look.{due}
 use Rattle.tp_bound_check.proofs.LookFacts.{open-dues}
 use Rattle.tp_bound_check.proofs.orders.CheckScene.open.Goals as goal
 

@@ -1,5 +1,5 @@
 use Rattle.std.proofs.Common.{◌+◌, refl, sym, ap, arith, map, drop}
-use Rattle.tp_trees.specs.Places.Due.{goal as goal_due}
+use Rattle.tp_bound_laws.specs.Places.Due.{goal as goal_due}
 use Rattle.tp_bound_check.specs.declared.dues.Frame.TheVariants.{Goals}
 use Rattle.tp_bound_check.proofs.FrameFacts.{first-on}
 use Rattle.tp_bound_check.proofs.LinkFacts.{within}

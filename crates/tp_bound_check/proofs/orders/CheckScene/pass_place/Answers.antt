@@ -1,12 +1,12 @@
 use Rattle.std.proofs.Common.{◌≡◌, ◌∙◌, [], true, ap, sym, subst}
-use Rattle.tp_trees.specs.Places.Due.{places}
+use Rattle.tp_bound_laws.specs.Places.Due.{places}
 use Rattle.tp_bound_check.specs.Frames.{IsOn}
 use Rattle.tp_bound_check.specs.Looks.{IsSoundFrame, dues_of}
 use Rattle.tp_bound_check.specs.declared.dues.Frame.{Frame}
 use Rattle.tp_bound_check.specs.declared.dues.Frame.TheVariants.{Held}
 use Rattle.tp_bound_check.proofs.FrameFacts.{deeper-on}
 use Rattle.tp_bound_check.proofs.NodeFacts.{behind-dues, behind-on, behind-sound, passed-is, places-first}
-use Rattle.tp_trees.specs.Places.{stand_of}
+use Rattle.tp_bound_laws.specs.Places.{stand_of}
 use Rattle.tp_bound_check.specs.Frames.{has_due}
 use Rattle.tp_bound_check.specs.Ranks.{IsRanked, IsSoundStand, next_number, number_of}
 use Rattle.tp_bound_check.proofs.WayFacts.{behind-number, behind-ranked, passing-below, stands}

@@ -1,5 +1,5 @@
 use Rattle.std.proofs.Common.{refl, false, true}
-use Rattle.tp_trees.specs.Places.Due.{stop}
+use Rattle.tp_bound_laws.specs.Places.Due.{stop}
 use Rattle.tp_bound_check.specs.Looks.{acts_at}
 use Rattle.tp_bound_check.specs.declared.dues.Frame.TheVariants.{Acts}
 use Rattle.tp_bound_check.proofs.FrameFacts.{deeper-on}

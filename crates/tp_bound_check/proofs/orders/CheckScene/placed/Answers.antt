@@ -4,7 +4,7 @@ use Rattle.tp_machine.specs.declared.parts.ActId.{ActId}
 use Rattle.tp_machine.specs.declared.parts.Anchor.TheVariants.{Start}
 use Rattle.tp_machine.specs.declared.parts.HoldRule.{HoldRule}
 use Rattle.tp_schedule.specs.Choices.{Choice}
-use Rattle.tp_trees.specs.Chains.{choice_act}
+use Rattle.tp_bound_laws.specs.Chains.{choice_act}
 use Rattle.tp_bound_check.proofs.ChoiceFacts.{slice-is}
 use Rattle.tp_bound_check.proofs.PlacedFacts.{beyond-gap, placed-gap, unplaced-gap}
 use Rattle.tp_bound_check.proofs.orders.CheckScene.placed.Goals.{then-start-eq0-via-then-start-eq0, then-start-eq0-via-else-start-eq0+then-start-count}

@@ -1,8 +1,8 @@
 use Rattle.std.proofs.Common.{◌≡◌, ◌==◌, leb, sym, subst, Some}
 use Rattle.tp_bounds.specs.declared.tree.Head.{Head}
 use Rattle.std.specs.List.{slice_get}
-use Rattle.tp_trees.specs.Places.{is_name_of_resource, order_length, stand_of}
-use Rattle.tp_trees.specs.Places.Due.{places}
+use Rattle.tp_bound_laws.specs.Places.{is_name_of_resource, order_length, stand_of}
+use Rattle.tp_bound_laws.specs.Places.Due.{places}
 use Rattle.tp_bound_check.specs.Ranks.{AreRanked, IsSoundStand}
 use Rattle.tp_bound_check.proofs.PlacedFacts.{in-order, more-places, one-place}
 use Rattle.tp_bound_check.proofs.WayFacts.{ranked-kept}

@@ -1,5 +1,5 @@
 use Rattle.std.proofs.Common.{ap, arith}
-use Rattle.tp_trees.specs.Places.{Stand}
+use Rattle.tp_bound_laws.specs.Places.{Stand}
 use Rattle.tp_bound_check.proofs.TrackFacts.{first-gap, other-gap}
 use Rattle.tp_bound_check.proofs.orders.CheckScene.walked_gap.Goals as goal
 

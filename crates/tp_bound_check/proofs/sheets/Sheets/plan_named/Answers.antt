@@ -1,7 +1,7 @@
 -- The place that was looked up is that of the plan.
 use Rattle.std.proofs.Common.{◌∙◌, ap, sym, arith, Some, None}
 use Rattle.std.specs.HashMap.{get}
-use Rattle.tp_trees.specs.Chains.{plan_named}
+use Rattle.tp_bound_laws.specs.Chains.{plan_named}
 use Rattle.tp_bound_check.specs.contracts.index.SheetKeyPartialEq.TheImpl.{eq-value}
 use Rattle.tp_bound_check.proofs.KeyFacts.{name-by}
 use Rattle.tp_bound_check.proofs.sheets.Sheets.plan_named.Goals as goal

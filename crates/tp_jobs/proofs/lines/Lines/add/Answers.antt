@@ -8,9 +8,9 @@ use Rattle.tp_jobs.proofs.FirstCopies.{length-sheets_of}
 use Rattle.tp_jobs.proofs.KeptFacts.{keeps-job}
 use Rattle.tp_jobs.proofs.MarkFacts.{keeps-then_job}
 use Rattle.tp_jobs.proofs.RefusalFacts.{accepted}
-use Rattle.tp_jobs.specs.Keeping.{Keeps, jobs_then}
-use Rattle.tp_jobs.specs.Refusing.{sheet_count}
-use Rattle.tp_jobs.specs.Waiting.{first_copies, sheets_of}
+use Rattle.tp_jobs.specs.LineInvariants.{Keeps, jobs_then}
+use Rattle.tp_jobs.specs.JobRefusals.{sheet_count}
+use Rattle.tp_jobs.specs.WaitingCopies.{first_copies, sheets_of}
 use Rattle.tp_jobs.specs.declared.parts.Job.{Job}
 use Rattle.tp_jobs.proofs.lines.Lines.add.Goals as goal
 

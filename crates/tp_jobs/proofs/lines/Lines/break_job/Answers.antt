@@ -2,7 +2,7 @@
 use Rattle.std.proofs.Common.{◌∙◌, length, take, ap, sym, subst, arith}
 use Rattle.tp_jobs.proofs.BrokenFacts.{keeps-broken, length-broken}
 use Rattle.tp_jobs.specs.Backlogs.{Backlog, mark_broken}
-use Rattle.tp_jobs.specs.Keeping.{Keeps}
+use Rattle.tp_jobs.specs.LineInvariants.{Keeps}
 use Rattle.tp_jobs.proofs.lines.Lines.break_job.Goals as goal
 
 pub invariant_of-self : goal.invariant_of-self

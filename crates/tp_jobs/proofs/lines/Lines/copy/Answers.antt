@@ -2,7 +2,7 @@
 use Rattle.std.proofs.Common.{◌≡◌, length, not, vec_len, take, ap, sym, arith, rules}
 use Rattle.std.proofs.lemmas.List.Sums.{count_by-le-length}
 use Rattle.tp_jobs.proofs.KeptFacts.{same-keeps}
-use Rattle.tp_jobs.specs.Keeping.{jobs_then}
+use Rattle.tp_jobs.specs.LineInvariants.{jobs_then}
 use Rattle.tp_jobs.specs.declared.parts.Job.{Job}
 use Rattle.tp_jobs.proofs.lines.Lines.copy.Goals as goal
 

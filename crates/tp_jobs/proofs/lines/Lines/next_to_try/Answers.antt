@@ -5,9 +5,9 @@ use Rattle.std.specs.List.{position_or_len}
 use Rattle.tp_jobs.proofs.NextFacts.{found-from, next-of_job, next-waits}
 use Rattle.tp_jobs.proofs.PlaceFacts.{is_behind}
 use Rattle.tp_jobs.specs.Backlogs.{Backlog, IsOfJob, WaitsBefore}
-use Rattle.tp_jobs.specs.Waiting.{find_waiting}
+use Rattle.tp_jobs.specs.WaitingCopies.{find_waiting}
 use Rattle.tp_schedule.specs.declared.parts.SheetId.{SheetId}
-use Rattle.tp_jobs.specs.Trying.{is_open, next_to_try}
+use Rattle.tp_jobs.specs.NextTry.{is_open, next_to_try}
 use Rattle.tp_jobs.proofs.lines.Lines.next_to_try.Goals as goal
 use Rattle.tp_jobs.proofs.lines.Lines.next_to_try.Goals.{in-Some, in-None}
 

@@ -4,7 +4,7 @@ use Rattle.std.proofs.lemmas.List.Sums.{count_by-le-length}
 use Rattle.tp_jobs.proofs.GivenJobs.{keeps-none}
 use Rattle.tp_jobs.proofs.KeptFacts.{same-keeps}
 use Rattle.tp_jobs.specs.Backlogs.{names_of}
-use Rattle.tp_jobs.specs.Keeping.{Keeps, jobs_then}
+use Rattle.tp_jobs.specs.LineInvariants.{Keeps, jobs_then}
 use Rattle.tp_jobs.specs.declared.parts.Job.{Job}
 use Rattle.tp_jobs.proofs.lines.Lines.rebuild.Goals as goal
 

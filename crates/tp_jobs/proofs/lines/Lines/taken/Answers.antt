@@ -1,8 +1,8 @@
 -- The copy that was found is taken out.
 use Rattle.std.proofs.Common.{◌≡◌, ◌∙◌, remove, sym, subst, arith, rules}
 use Rattle.tp_jobs.proofs.KeptFacts.{keeps-without}
-use Rattle.tp_jobs.specs.Keeping.{Keeps}
-use Rattle.tp_jobs.specs.Waiting.{without_waiting}
+use Rattle.tp_jobs.specs.LineInvariants.{Keeps}
+use Rattle.tp_jobs.specs.WaitingCopies.{without_waiting}
 use Rattle.tp_jobs.proofs.lines.Lines.taken.Goals as goal
 
 pub invariant_of-self : goal.invariant_of-self

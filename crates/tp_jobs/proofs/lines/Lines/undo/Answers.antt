@@ -4,7 +4,7 @@ use Rattle.std.proofs.lemmas.List.{length-take-le, take-take}
 use Rattle.tp_jobs.proofs.KeptFacts.{same-keeps}
 use Rattle.tp_jobs.proofs.MarkFacts.{count-then, then-then}
 use Rattle.tp_jobs.proofs.WholeFacts.{length-all_whole}
-use Rattle.tp_jobs.specs.Keeping.{jobs_then, mark_all_whole, whole_count}
+use Rattle.tp_jobs.specs.LineInvariants.{jobs_then, mark_all_whole, whole_count}
 use Rattle.tp_jobs.proofs.lines.Lines.undo.Goals as goal
 
 pub invariant_of-self : goal.invariant_of-self

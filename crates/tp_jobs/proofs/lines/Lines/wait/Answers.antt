@@ -3,8 +3,8 @@ use Rattle.std.proofs.Common.{◌≡◌, ap, sym, subst, insert, ◌∙◌, arit
 use Rattle.tp_jobs.proofs.PlaceFacts.{insert-put_waiting}
 use Rattle.tp_jobs.proofs.KeptFacts.{keeps-put}
 use Rattle.tp_jobs.specs.Backlogs.{Backlog}
-use Rattle.tp_jobs.specs.Keeping.{Keeps, jobs_then}
-use Rattle.tp_jobs.specs.Waiting.{put_waiting}
+use Rattle.tp_jobs.specs.LineInvariants.{Keeps, jobs_then}
+use Rattle.tp_jobs.specs.WaitingCopies.{put_waiting}
 use Rattle.tp_jobs.proofs.lines.Lines.wait.Goals as goal
 
 put : (c : goal.In_ok-insert) → c.insert.new.self.items ≡ put_waiting c.self.inside.waiting.items (record { sheet = c.args.sheet; want = c.args.want })

@@ -1,12 +1,12 @@
 use Rattle.std.proofs.Common.{◌≡◌, true, false, [], ◌∷◌, ◌++◌, List, None, sym, ap, subst, ◌∙◌}
 use Rattle.std.specs.Prelude.{option_map}
-use Rattle.tp_entries.specs.Gathered.{lines_of}
+use Rattle.tp_log_check.specs.Gathered.{lines_of}
 use Rattle.tp_log.specs.LogLines.{AreInOrder, is_event}
 use Rattle.tp_log.specs.declared.log_line.LogLine.{LogLine}
 use Rattle.tp_log.specs.declared.log_line.LogLine.TheVariants.{Room as RowLine, Node as NodeLine}
-use Rattle.tp_turn.specs.LiveStates.{seen}
-use Rattle.tp_log_check.specs.Checking.{HasTaken, underway}
-use Rattle.tp_log_check.proofs.Denying.{if-false, taken-off}
+use Rattle.tp_event_rules.specs.LiveStates.{seen}
+use Rattle.tp_log_check.specs.CheckerState.{HasTaken, underway}
+use Rattle.tp_log_check.proofs.RefusedLogs.{if-false, taken-off}
 use Rattle.tp_log_check.proofs.checker.LogChecker.add.Goals as goal
 
 pub returns-in-Event-clause-refused : goal.returns-in-Event-clause-refused

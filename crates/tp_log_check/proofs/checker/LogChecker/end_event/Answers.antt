@@ -1,16 +1,16 @@
 use Rattle.std.proofs.Common.{◌≡◌, ◌∷◌, inr, ◌+◌, ◌<◌, ◌^◌, ◌++◌, ap, sym, subst, ◌∙◌}
 use Rattle.std.specs.Prelude.{IfSome, option_map}
-use Rattle.tp_entries.specs.Gathered.{IsPending}
-use Rattle.tp_turn.specs.LiveStates.{seen}
+use Rattle.tp_log_check.specs.Gathered.{IsPending}
+use Rattle.tp_event_rules.specs.LiveStates.{seen}
 use Rattle.tp_log.specs.declared.item.Item.TheVariants.{Event}
 use Rattle.tp_log_check.specs.Causes.{HasCause, IsDueOrStops, flaw_at}
 use Rattle.tp_log_check.proofs.FlawCauses.{caused}
-use Rattle.tp_log_check.specs.Checking.{CheckerValue, HasTaken, underway}
-use Rattle.tp_entries.specs.Heights.{heights}
+use Rattle.tp_log_check.specs.CheckerState.{CheckerValue, HasTaken, underway}
+use Rattle.tp_log_check.specs.Heights.{heights}
 use Rattle.tp_log_check.specs.FlawLines.{LiesBehind}
 use Rattle.tp_log_check.specs.Lawful.{IsLawfulLog}
-use Rattle.tp_entries.proofs.PendingFacts.{plain_closed}
-use Rattle.tp_log_check.proofs.Denying.{taken-none}
+use Rattle.tp_log_check.proofs.PendingFacts.{plain_closed}
+use Rattle.tp_log_check.proofs.RefusedLogs.{taken-none}
 use Rattle.tp_log_check.proofs.FlawPlaces.{found-ended, told-ended}
 use Rattle.tp_log_check.proofs.Sections.{is-none, keeps-stock, taken-more, went-on}
 use Rattle.tp_log_check.proofs.checker.LogChecker.end_event.Goals as goal

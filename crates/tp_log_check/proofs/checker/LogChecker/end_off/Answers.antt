@@ -1,10 +1,10 @@
 use Rattle.std.proofs.Common.{inl, refl, ap, sym, subst, ◌∙◌}
 use Rattle.std.specs.Prelude.{IfSome, option_map}
-use Rattle.tp_entries.specs.Gathered.{IsPending}
-use Rattle.tp_turn.specs.LiveStates.{seen}
+use Rattle.tp_log_check.specs.Gathered.{IsPending}
+use Rattle.tp_event_rules.specs.LiveStates.{seen}
 use Rattle.tp_log_check.specs.Causes.{HasCause, IsDueOrStops, flaw_at}
 use Rattle.tp_log_check.proofs.FlawCauses.{caused}
-use Rattle.tp_log_check.specs.Checking.{CheckerValue, HasTaken, underway}
+use Rattle.tp_log_check.specs.CheckerState.{CheckerValue, HasTaken, underway}
 use Rattle.tp_log_check.proofs.FlawPlaces.{fits-so-far, found-so-far, off-last}
 use Rattle.tp_log_check.proofs.Sections.{keeps-stock}
 use Rattle.tp_log_check.proofs.checker.LogChecker.end_off.Goals as goal

@@ -1,15 +1,15 @@
 use Rattle.std.proofs.Common.{◌≡◌, ◌+◌, ◌<◌, ◌^◌, [], ◌∷◌, length, ◌++◌, Some, None, Err, sym, ap, subst, ◌∙◌, arith}
-use Rattle.tp_turn.specs.LiveStates.{seen}
-use Rattle.tp_log_check.specs.Checking.{HasTaken, underway}
+use Rattle.tp_event_rules.specs.LiveStates.{seen}
+use Rattle.tp_log_check.specs.CheckerState.{HasTaken, underway}
 use Rattle.tp_log_check.specs.FlawLines.{LiesAt}
 use Rattle.tp_log_check.proofs.FlawPlaces.{at-off, before-lines}
 use Rattle.std.proofs.lemmas.List.{length-append}
-use Rattle.tp_log_check.proofs.Reading.{same-taken}
+use Rattle.tp_log_check.proofs.ReadSoFar.{same-taken}
 use Rattle.std.specs.Prelude.{IsSome, option_map}
 use Rattle.tp_log.specs.LogLines.{ReadsLogLine}
 use Rattle.tp_log.proofs.BoundLines.{one_log_line}
 use Rattle.tp_log_check.specs.Lawful.{IsLawfulLog}
-use Rattle.tp_log_check.proofs.Denying.{lawful-line, some-not_none}
+use Rattle.tp_log_check.proofs.RefusedLogs.{lawful-line, some-not_none}
 use Rattle.tp_log_check.proofs.checker.LogChecker.feed.Goals as goal
 
 pub invariant_of-self : goal.invariant_of-self

@@ -1,14 +1,14 @@
 use Rattle.std.proofs.Common.{◌≡◌, ◌≢◌, ◌+◌, ◌<◌, ◌^◌, List, [], length, sym, ◌∙◌, ap, subst}
 use Rattle.std.specs.Prelude.{IfErr, IfOk}
 use Rattle.std.proofs.lemmas.List.{append-nil}
-use Rattle.tp_entries.specs.Counting.{counts_of}
+use Rattle.tp_log_check.specs.LogCounts.{counts_of}
 use Rattle.tp_log.specs.declared.log_line.LogLine.{LogLine}
 use Rattle.tp_log_check.specs.Causes.{HasCause}
 use Rattle.tp_log_check.specs.FlawLines.{LiesInLast}
 use Rattle.tp_log_check.specs.Lawful.{IsLawfulLog}
 use Rattle.tp_log_check.specs.declared.flaw.Flaw.TheVariants.{Memory as WantsMemory}
-use Rattle.tp_log_check.specs.Checking.{HasRead, HasTaken, IsAcceptedLog}
-use Rattle.tp_log_check.proofs.Reading.{read-log}
+use Rattle.tp_log_check.specs.CheckerState.{HasRead, HasTaken, IsAcceptedLog}
+use Rattle.tp_log_check.proofs.ReadSoFar.{read-log}
 use Rattle.tp_log_check.proofs.checker.LogChecker.finish.Goals.{in-Ok, in-Err}
 use Rattle.tp_log_check.proofs.checker.LogChecker.finish.Goals as goal
 

@@ -1,10 +1,10 @@
 use Rattle.std.proofs.Common.{[], refl, sym, subst, arith}
 use Rattle.std.proofs.lemmas.List.Elements.{All-nil}
-use Rattle.tp_entries.specs.Gathered.{ArePlain}
+use Rattle.tp_log_check.specs.Gathered.{ArePlain}
 use Rattle.tp_log.specs.Logs.{IsLog}
-use Rattle.tp_turn.specs.Ready.{CanTakeEvents, KeepsStock}
+use Rattle.tp_event_rules.specs.Ready.{CanTakeEvents, KeepsStock}
 use Rattle.tp_log_check.specs.Lawful.{AreInPlaces}
-use Rattle.tp_log_check.specs.Checking.{AreWithin, section_items}
+use Rattle.tp_log_check.specs.CheckerState.{AreWithin, section_items}
 use Rattle.tp_log_check.proofs.checker.LogChecker.new.Goals as goal
 
 pub invariant_of-result : goal.invariant_of-result

@@ -3,7 +3,7 @@ use Rattle.std.specs.List.{All}
 use Rattle.tp_log.specs.LogLines.{AreInOrder, IsLogLine, log_line_text}
 use Rattle.tp_log.specs.declared.log_line.LogLine.{LogLine}
 use Rattle.tp_log.specs.declared.log_line.LogLine.TheVariants.{Event as EventLine}
-use Rattle.tp_log_check.specs.Checking.{HasTaken, events_in}
+use Rattle.tp_log_check.specs.CheckerState.{HasTaken, events_in}
 use Rattle.tp_script.specs.declared.event.Event.{Event as AnEvent}
 use Rattle.tp_log_check.specs.Lawful.{IsLawfulLog}
 use Rattle.tp_log_check.specs.declared.flaw.Flaw.{Flaw}
@@ -11,7 +11,7 @@ use Rattle.tp_log_check.specs.declared.flaw.Flaw.TheVariants.{Memory as WantsMem
 use Rattle.tp_log_check.specs.Causes.{HasCause}
 use Rattle.tp_log_check.specs.FlawLines.{LiesAt, LiesInLast}
 use Rattle.tp_log_check.proofs.FlawPlaces.{at-last, at-off, off-told}
-use Rattle.tp_log_check.proofs.Denying.{if-err, lawful-order}
+use Rattle.tp_log_check.proofs.RefusedLogs.{if-err, lawful-order}
 use Rattle.tp_log_check.proofs.checker.LogChecker.take.Goals as goal
 
 pub returns-in-Event-clause-refused : goal.returns-in-Event-clause-refused

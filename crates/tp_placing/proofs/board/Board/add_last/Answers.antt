@@ -8,9 +8,9 @@ use Rattle.tp_base.specs.declared.edges.PointId.{PointId}
 use Rattle.tp_schedule.specs.Spots.{slot_order}
 use Rattle.tp_schedule.specs.declared.parts.Plan.{Plan}
 use Rattle.tp_placing.specs.Boards.{past_of, side_by_side}
-use Rattle.tp_placing.specs.Growing.{IsBehind, KeepEdges}
+use Rattle.tp_placing.specs.AddedEdges.{IsBehind, KeepEdges}
 use Rattle.tp_placing.specs.LoadedHolds.{held_from, ticks_in}
-use Rattle.tp_placing.specs.Standing.{loaded_edges}
+use Rattle.tp_placing.specs.LoadedBoard.{loaded_edges}
 use Rattle.tp_placing.proofs.AddingFacts.{AreOwn, CanPut, HasFewPoints, LoadPlans, can-put, few-more, load-all, own-are}
 use Rattle.tp_placing.proofs.BehindFacts.{one-behind}
 use Rattle.tp_placing.proofs.BoardFacts.{board-firsts, board-step}

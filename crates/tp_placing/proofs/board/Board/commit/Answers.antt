@@ -2,7 +2,7 @@ use Rattle.std.proofs.Common.{arith, sym, refl, ap, ◌∙◌, subst, ◌≡◌,
 use Rattle.std.specs.List.{slice_get}
 use Rattle.std.proofs.lemmas.Option.{slice_get_read}
 use Rattle.tp_schedule.specs.Completions.{asked_plan, settled_ticks, total_of}
-use Rattle.tp_schedule.specs.Living.{is_live}
+use Rattle.tp_schedule.specs.LivePlans.{is_live}
 use Rattle.tp_schedule.specs.Times.{timed_by}
 use Rattle.tp_schedule.specs.Plans.{IsEarlier, end_of_plan, plan_of, put_plan, without}
 use Rattle.tp_schedule.specs.Spots.{Ticks}
@@ -17,12 +17,12 @@ use Rattle.tp_placing.specs.declared.parts.Step.{Step}
 use Rattle.tp_placing.specs.Boards.{BoardValue, suffix_after}
 use Rattle.tp_placing.specs.Inside.{board_of}
 use Rattle.tp_placing.specs.Settled.{AreOfSchedule}
-use Rattle.tp_placing.specs.Standing.{StandsOn, board_table}
+use Rattle.tp_placing.specs.LoadedBoard.{StandsOn, board_table}
 use Rattle.tp_placing.specs.Ticks.{HasLeastTick}
-use Rattle.tp_placing.specs.Writing.{AreLeastTicks, CanCommit, IsHeldFrom, retimed_in}
+use Rattle.tp_placing.specs.Commits.{AreLeastTicks, CanCommit, IsHeldFrom, retimed_in}
 use Rattle.tp_placing.proofs.StandFacts.{and-some, some-and, stands-ask}
 use Rattle.tp_placing.proofs.StepFacts.{some-steps}
-use Rattle.tp_constraints.proofs.Numbering.{number-at}
+use Rattle.tp_constraints.proofs.PointNumbers.{number-at}
 use Rattle.tp_placing.proofs.ReadFacts.{end-point, least-tick}
 use Rattle.tp_placing.proofs.WriteCommit.{IsWritten, written-is}
 use Rattle.tp_placing.proofs.WriteHeld.{held-part}

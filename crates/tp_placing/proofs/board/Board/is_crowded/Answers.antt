@@ -4,7 +4,7 @@ use Rattle.std.proofs.lemmas.Option.{slice_get_read}
 use Rattle.tp_base.proofs.SliceFacts.{All-at}
 use Rattle.tp_timelines.specs.Orders.{order_on}
 use Rattle.tp_placing.specs.Boards.{BoardValue}
-use Rattle.tp_placing.specs.Crowding.{begin_by}
+use Rattle.tp_placing.specs.PushedHolds.{begin_by}
 use Rattle.tp_placing.specs.Edges.{held_behind, held_of}
 use Rattle.tp_placing.specs.Inside.{board_of}
 use Rattle.tp_placing.proofs.CrowdFacts.{small-stays}

@@ -2,7 +2,7 @@ use Rattle.std.proofs.Common.{◌∙◌, All, List, refl, sym, subst}
 use Rattle.tp_schedule.specs.declared.parts.Plan.{Plan}
 use Rattle.tp_placing.specs.Loaded.{CanLoad}
 use Rattle.tp_placing.specs.Settled.{HasLeastPoints}
-use Rattle.tp_placing.specs.Standing.{IsMadeFor}
+use Rattle.tp_placing.specs.LoadedBoard.{IsMadeFor}
 use Rattle.tp_placing.proofs.LivePlans.{live-loads}
 use Rattle.tp_placing.proofs.LoadedBoard.{stands-loaded}
 use Rattle.tp_placing.proofs.LoadedTicks.{points-fit}

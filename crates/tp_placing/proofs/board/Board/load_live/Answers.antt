@@ -4,15 +4,15 @@ use Rattle.tp_base.specs.Grows.{IsKnown}
 use Rattle.tp_base.specs.Net.{Net, HasLeast, IsSolution, empty_net, with_edges}
 use Rattle.tp_base.specs.declared.edges.Edge.{Edge}
 use Rattle.tp_base.specs.declared.edges.PointId.{PointId}
-use Rattle.tp_schedule.specs.Living.{is_live}
+use Rattle.tp_schedule.specs.LivePlans.{is_live}
 use Rattle.tp_schedule.specs.declared.parts.Plan.{Plan}
 use Rattle.tp_placing.specs.Causes.{most_causes, step_causes}
 use Rattle.tp_placing.specs.declared.causes.EdgeCause.{EdgeCause}
 use Rattle.tp_placing.specs.Inside.{most_edges}
 use Rattle.tp_placing.specs.Loaded.{IsLoaded, all_edges}
 use Rattle.tp_placing.specs.LoadedHolds.{AreInOrder, ticks_in}
-use Rattle.tp_placing.specs.Loading.{chains_causes, firsts_from, holds_on, point_count, with_plans}
-use Rattle.tp_placing.specs.Standing.{loaded_edges}
+use Rattle.tp_placing.specs.LoadedNet.{chains_causes, firsts_from, holds_on, point_count, with_plans}
+use Rattle.tp_placing.specs.LoadedBoard.{loaded_edges}
 use Rattle.tp_placing.proofs.LiveFacts.{empty-least, points-few}
 use Rattle.tp_placing.proofs.LoadedTicks.{few-acts, ticks-count}
 use Rattle.tp_placing.proofs.LoadedNet.{causes-fit, count, edges-fit, edges-kept, edges-known, loaded}

@@ -7,10 +7,10 @@ use Rattle.tp_schedule.specs.declared.parts.Plan.{Plan}
 use Rattle.tp_constraints.specs.Gaps.{low_of}
 use Rattle.tp_placing.specs.Boards.{past_of}
 use Rattle.tp_placing.specs.Loaded.{CanLoad, IsLoaded}
-use Rattle.tp_placing.specs.Loading.{caps_of, lows_of, point_count}
-use Rattle.tp_placing.specs.Moving.{AreFurther}
+use Rattle.tp_placing.specs.LoadedNet.{caps_of, lows_of, point_count}
+use Rattle.tp_placing.specs.ClockMove.{AreFurther}
 use Rattle.tp_placing.specs.Settled.{HasLeastPoints}
-use Rattle.tp_placing.specs.Standing.{AreFirsts}
+use Rattle.tp_placing.specs.LoadedBoard.{AreFirsts}
 use Rattle.tp_placing.proofs.LoadTable.{length-table-of}
 use Rattle.tp_placing.proofs.LoadedTicks.{points-fit}
 use Rattle.tp_placing.proofs.MovedBounds.{length-rows}

@@ -2,13 +2,13 @@ use Rattle.std.proofs.Common.{ℕ, arith, ap, sym, ◌∙◌, subst, ◌≡◌, 
 use Rattle.std.specs.List.{slice_get}
 use Rattle.std.proofs.lemmas.Option.{slice_get_read, slice_get_within, same_Some}
 use Rattle.tp_machine.specs.declared.parts.ActId.{ActId}
-use Rattle.tp_schedule.specs.Holding.{holds_of_act}
+use Rattle.tp_schedule.specs.Holders.{holds_of_act}
 use Rattle.tp_schedule.specs.Answers.{kept_of}
 use Rattle.tp_placing.specs.Boards.{BoardValue, suffix_after}
 use Rattle.tp_placing.specs.Calls.{CanPlace}
 use Rattle.tp_placing.specs.Causes.{step_tag}
 use Rattle.tp_placing.specs.Inside.{board_of}
-use Rattle.tp_placing.specs.Standing.{Stands}
+use Rattle.tp_placing.specs.LoadedBoard.{Stands}
 use Rattle.tp_placing.proofs.BoardFacts.{steps-room}
 use Rattle.tp_placing.proofs.NewestFacts.{HasNewest, act-known, has-newest, hold-known, newest-act}
 use Rattle.tp_placing.proofs.StandFacts.{and-some, some-and, some-at}

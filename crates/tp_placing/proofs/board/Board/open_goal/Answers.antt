@@ -12,7 +12,7 @@ use Rattle.tp_placing.specs.declared.parts.Step.{Step}
 use Rattle.tp_placing.specs.Boards.{BoardValue, after_change, suffix_after}
 use Rattle.tp_placing.specs.Edges.{end_edges}
 use Rattle.tp_placing.specs.Inside.{board_of}
-use Rattle.tp_placing.specs.Standing.{AreCaused, Stands, StandsOn, IsAtWith}
+use Rattle.tp_placing.specs.LoadedBoard.{AreCaused, Stands, StandsOn, IsAtWith}
 use Rattle.tp_placing.proofs.BoardFacts.{board-step}
 use Rattle.tp_placing.proofs.CauseFacts.{keeps-all}
 use Rattle.tp_placing.proofs.GoalFacts.{goal-caused, empty, can-open, few-edges, goal-reason, goal-refused, goal-at}

@@ -1,7 +1,7 @@
 use Rattle.std.proofs.Common.{arith, ◌∙◌}
 use Rattle.tp_timelines.specs.Orders.{order_on}
 use Rattle.tp_placing.specs.Boards.{suffix_after}
-use Rattle.tp_placing.specs.Standing.{board_table, order_after}
+use Rattle.tp_placing.specs.LoadedBoard.{board_table, order_after}
 use Rattle.tp_placing.proofs.SlotFacts.{length-slots}
 use Rattle.tp_placing.proofs.board.Board.places.Goals as goal
 

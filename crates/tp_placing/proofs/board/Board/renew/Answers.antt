@@ -1,9 +1,9 @@
 use Rattle.std.proofs.Common.{◌≡◌, filter, refl, sym, subst}
-use Rattle.tp_schedule.specs.Living.{is_live}
+use Rattle.tp_schedule.specs.LivePlans.{is_live}
 use Rattle.tp_placing.specs.Loaded.{CanLoad}
-use Rattle.tp_placing.specs.Standing.{IsMadeFor}
-use Rattle.tp_placing.specs.Writing.{IsHeldFrom}
-use Rattle.tp_placing.specs.Following.{AreFit}
+use Rattle.tp_placing.specs.LoadedBoard.{IsMadeFor}
+use Rattle.tp_placing.specs.Commits.{IsHeldFrom}
+use Rattle.tp_placing.specs.KeptBoard.{AreFit}
 use Rattle.tp_placing.proofs.FitPlans.{fit-held, fit-kept, fit-points}
 use Rattle.tp_placing.proofs.HeldPlans.{held-live}
 use Rattle.tp_placing.proofs.LivePlans.{live-loads}

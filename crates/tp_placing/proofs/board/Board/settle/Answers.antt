@@ -1,11 +1,11 @@
 use Rattle.std.proofs.Common.{Bool, sym, ◌∙◌, subst, ◌≡◌, map, filter, All, AllPairs}
-use Rattle.tp_schedule.specs.Living.{is_live}
+use Rattle.tp_schedule.specs.LivePlans.{is_live}
 use Rattle.tp_schedule.specs.Plans.{IsEarlier, IsFormed}
 use Rattle.tp_schedule.specs.Spots.{Ticks}
 use Rattle.tp_schedule.specs.declared.parts.Plan.{Plan}
 use Rattle.tp_constraints.specs.Numbers.{table_of}
 use Rattle.tp_placing.specs.Settled.{AreOfSchedule}
-use Rattle.tp_placing.specs.Writing.{AreLeastTicks, retimed_in}
+use Rattle.tp_placing.specs.Commits.{AreLeastTicks, retimed_in}
 use Rattle.tp_placing.proofs.WriteReady.{timed-formed}
 use Rattle.tp_placing.proofs.WriteSettle.{live-part, live-settles, settled-few, settled-is}
 use Rattle.tp_placing.proofs.board.Board.settle.Goals as goal

@@ -13,7 +13,7 @@ use Rattle.tp_constraints.specs.Numbers.{table_of}
 use Rattle.tp_constraints.specs.Suffixes.{with_stop}
 use Rattle.tp_placing.specs.Boards.{BoardValue, suffix_after, suffix_of}
 use Rattle.tp_placing.specs.Inside.{board_of}
-use Rattle.tp_placing.specs.Standing.{AreCaused, Stands, StandsOn, IsAtWith}
+use Rattle.tp_placing.specs.LoadedBoard.{AreCaused, Stands, StandsOn, IsAtWith}
 use Rattle.tp_placing.proofs.PastFacts.{side-steps}
 use Rattle.tp_schedule.specs.Answers.{kept_of}
 use Rattle.tp_constraints.specs.Suffixes.{Suffix}

@@ -3,7 +3,7 @@ use Rattle.std.specs.List.{slice_get}
 use Rattle.tp_constraints.specs.Numbers.{table_of}
 use Rattle.tp_schedule.specs.Spots.Spot.{kept}
 use Rattle.tp_placing.specs.Boards.{suffix_after}
-use Rattle.tp_placing.specs.Standing.{own_points}
+use Rattle.tp_placing.specs.LoadedBoard.{own_points}
 use Rattle.tp_placing.proofs.ReadFacts.{known-point, least-tick}
 use Rattle.tp_placing.proofs.StandFacts.{and-some}
 use Rattle.tp_placing.proofs.TableFacts.{table-left}

@@ -3,7 +3,7 @@ use Rattle.std.proofs.Common.{◌≡◌, arith, rules, filter}
 use Rattle.std.proofs.lemmas.Fn.{filter_same}
 use Rattle.std.proofs.lemmas.List.Elements.{All-filter}
 use Rattle.std.proofs.lemmas.List.Kept.{AllPairs-filter}
-use Rattle.tp_schedule.specs.Living.{is_live}
+use Rattle.tp_schedule.specs.LivePlans.{is_live}
 use Rattle.tp_schedule.specs.Plans.{IsEarlier, IsFormed}
 use Rattle.tp_schedule.proofs.schedule.Schedule.forget.Goals as goal
 

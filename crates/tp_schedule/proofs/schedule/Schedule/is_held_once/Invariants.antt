@@ -1,5 +1,5 @@
 use Rattle.std.proofs.Common.{◌≡◌, ◌*◌, ◌≤◌, length, filter, take}
-use Rattle.tp_schedule.specs.Holding.{holds_at, runs}
+use Rattle.tp_schedule.specs.Holders.{holds_at, runs}
 use Rattle.tp_schedule.proofs.schedule.Schedule.is_held_once.Given as goal
 
 abbrev pub invariant-loop-plan : goal.invariant-loop-plan

@@ -2,7 +2,7 @@
 use Rattle.std.proofs.Common.{◌∙◌, ap, subst, sym}
 use Rattle.tp_placing.proofs.StandFacts.{and-some}
 use Rattle.tp_placing.specs.Calls.{IsSameLoad}
-use Rattle.tp_placing.specs.Following.{HoldsOthers}
+use Rattle.tp_placing.specs.KeptBoard.{HoldsOthers}
 use Rattle.tp_routes.specs.Tables.{KeepsRooms}
 use Rattle.tp_search.proofs.EngineFacts.{holds-others}
 use Rattle.tp_search.proofs.engine.Engine.answer.Goals as goal

@@ -1,6 +1,6 @@
 -- The answer was given on the same plans, and the engine has the nodes of its workspace.
 use Rattle.std.proofs.Common.{ap, subst}
-use Rattle.tp_schedule.specs.Spending.{FewListsOpen}
+use Rattle.tp_schedule.specs.SpentBudget.{FewListsOpen}
 use Rattle.tp_search.proofs.EngineFacts.{few-told}
 use Rattle.tp_search.proofs.engine.Engine.answer_ready.Goals as goal
 

@@ -3,7 +3,7 @@ use Rattle.tp_schedule.specs.Answers.{IsAlternative}
 use Rattle.tp_schedule.specs.Plans.{end_of_plan}
 use Rattle.tp_schedule.specs.Spots.Spot.{own}
 use Rattle.tp_placing.specs.Ticks.{HasLeastTick}
-use Rattle.tp_placing.specs.Writing.{IsHeldFrom}
+use Rattle.tp_placing.specs.Commits.{IsHeldFrom}
 use Rattle.tp_placing.proofs.StandFacts.{and-some}
 use Rattle.tp_search.specs.Trials.{IsEarliestTo}
 use Rattle.tp_search.proofs.HeldFacts.{none_before-from}

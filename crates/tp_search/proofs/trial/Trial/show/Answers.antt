@@ -3,7 +3,7 @@ use Rattle.std.proofs.Common.{◌≡◌, refl, sym, ap, subst, ◌∙◌, Some}
 use Rattle.tp_machine.proofs.MachineFacts.{is_machine}
 use Rattle.tp_schedule.specs.Answers.{NoneBefore}
 use Rattle.tp_placing.specs.Boards.{BoardValue, suffix_of}
-use Rattle.tp_placing.specs.Writing.{IsLoadedFrom}
+use Rattle.tp_placing.specs.Commits.{IsLoadedFrom}
 use Rattle.tp_placing.proofs.StandFacts.{and-some}
 use Rattle.tp_search.specs.Again.{suffix_by}
 use Rattle.tp_search.specs.Boards.{IsBack}

@@ -1,6 +1,6 @@
 use Rattle.std.proofs.Common.{length, ap, sym, subst, ◌∙◌, arith}
 use Rattle.tp_placing.specs.Boards.{suffix_after}
-use Rattle.tp_placing.specs.Writing.{IsHeldFrom}
+use Rattle.tp_placing.specs.Commits.{IsHeldFrom}
 use Rattle.tp_search.specs.Boards.{IsBack}
 use Rattle.tp_search.specs.Outcomes.{IsOutcome}
 use Rattle.tp_search.specs.Workspaces.{WorkspaceValue}

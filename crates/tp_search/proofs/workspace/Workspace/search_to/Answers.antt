@@ -2,7 +2,7 @@ use Rattle.std.proofs.Common.{◌≡◌, ◌+◌, ap, sym, subst, ◌∙◌, ari
 use Rattle.tp_routes.specs.Index.{IsLeadIndex}
 use Rattle.tp_routes.specs.Tables.{AreRooms}
 use Rattle.tp_search.specs.Outcomes.{IsOutcome}
-use Rattle.tp_search.specs.Searching.{IsSearching}
+use Rattle.tp_search.specs.SearchProgress.{IsSearching}
 use Rattle.tp_search.specs.Stores.{StoreValue}
 use Rattle.tp_search.specs.Workspaces.{IsFor, WorkspaceValue}
 use Rattle.tp_search.proofs.AskedFacts.{asked-known, begins-with}

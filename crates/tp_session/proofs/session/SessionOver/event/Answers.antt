@@ -1,16 +1,16 @@
 -- An event can be taken after so many, and one more can be taken after it.
 use Rattle.std.proofs.Common.{ℕ, ◌+◌, ◌<◌, ◌≤◌, ◌++◌, arith, refl, sym, ap, subst, ◌∙◌}
 use Rattle.tp_search.specs.Engines.{Serves}
-use Rattle.tp_teller.specs.Tellers.{most_events}
-use Rattle.tp_turn.specs.LiveStates.{seen}
-use Rattle.tp_turn.specs.Ready.{CanTakeEvents, KeepsStock, last_copy}
-use Rattle.tp_runs.specs.Wholes.{TellsTurn}
+use Rattle.tp_stream.specs.Tellers.{most_events}
+use Rattle.tp_event_rules.specs.LiveStates.{seen}
+use Rattle.tp_event_rules.specs.Ready.{CanTakeEvents, KeepsStock, last_copy}
+use Rattle.tp_run_laws.specs.Wholes.{TellsTurn}
 use Rattle.tp_session.specs.Sessions.{Tells}
-use Rattle.tp_sound.specs.Kept.{KeepsSound}
-use Rattle.tp_standing.specs.Sound.{last_number}
-use Rattle.tp_turn.proofs.ReadyTurns.{events-more}
+use Rattle.tp_session.specs.Kept.{KeepsSound}
+use Rattle.tp_session_standing.specs.Sound.{last_number}
+use Rattle.tp_event_rules.proofs.ReadyTurns.{events-more}
 use Rattle.tp_session.proofs.session.SessionOver.event.Goals as goal
-use Rattle.tp_turn.proofs.StockKept.{stock-more}
+use Rattle.tp_event_rules.proofs.StockKept.{stock-more}
 
 pub take_turn-result-requires-clause-can : goal.take_turn-result-requires-clause-can
 take_turn-result-requires-clause-can g c =

@@ -1,9 +1,9 @@
 use Rattle.std.proofs.Common.{arith, sym, subst}
-use Rattle.tp_standing.specs.Sound.{last_number}
-use Rattle.tp_turn.proofs.ReadyTurns.{events-more}
-use Rattle.tp_turn.proofs.StockKept.{stock-more}
-use Rattle.tp_turn.specs.LiveStates.{seen}
-use Rattle.tp_turn.specs.Ready.{CanTakeEvents, KeepsStock}
+use Rattle.tp_session_standing.specs.Sound.{last_number}
+use Rattle.tp_event_rules.proofs.ReadyTurns.{events-more}
+use Rattle.tp_event_rules.proofs.StockKept.{stock-more}
+use Rattle.tp_event_rules.specs.LiveStates.{seen}
+use Rattle.tp_event_rules.specs.Ready.{CanTakeEvents, KeepsStock}
 use Rattle.tp_session.proofs.session.SessionOver.over.Goals as goal
 
 pub invariant_of-result : goal.invariant_of-result

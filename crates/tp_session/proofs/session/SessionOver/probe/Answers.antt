@@ -1,11 +1,11 @@
 -- What was told of the live part, with the engine's nodes, is told of the session.
 use Rattle.std.proofs.Common.{ℕ, ◌+◌, arith, subst}
-use Rattle.tp_turn.specs.LiveStates.{seen}
+use Rattle.tp_event_rules.specs.LiveStates.{seen}
 use Rattle.tp_session.specs.Probes.{Probes}
 use Rattle.tp_session.proofs.ProbeFacts.{probes-behind}
 use Rattle.tp_session.proofs.session.SessionOver.probe.Goals as goal
-use Rattle.tp_turn.specs.Ready.{last_copy}
-use Rattle.tp_turn.proofs.StockKept.{stock-more}
+use Rattle.tp_event_rules.specs.Ready.{last_copy}
+use Rattle.tp_event_rules.proofs.StockKept.{stock-more}
 
 pub returns-in-Ok-clause-told : goal.returns-in-Ok-clause-told
 returns-in-Ok-clause-told g c =

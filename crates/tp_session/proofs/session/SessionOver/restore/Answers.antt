@@ -1,13 +1,13 @@
 -- Any event can be taken in the state that the standing tells.
 use Rattle.std.proofs.Common.{◌≡◌, ◌+◌, arith, subst, sym}
 use Rattle.tp_jobs.specs.declared.standing.Standing.{Standing}
-use Rattle.tp_standing.specs.Laws.{CanGoOn}
-use Rattle.tp_standing.specs.Sound.{IsSound, last_number}
-use Rattle.tp_standing.specs.Told.{told}
-use Rattle.tp_turn.proofs.ReadyTurns.{events-more}
-use Rattle.tp_turn.proofs.StockKept.{stock-more}
-use Rattle.tp_turn.specs.LiveStates.{seen}
-use Rattle.tp_turn.specs.Ready.{CanTakeEvents, KeepsStock}
+use Rattle.tp_session_standing.specs.Laws.{CanGoOn}
+use Rattle.tp_session_standing.specs.Sound.{IsSound, last_number}
+use Rattle.tp_session_standing.specs.Told.{told}
+use Rattle.tp_event_rules.proofs.ReadyTurns.{events-more}
+use Rattle.tp_event_rules.proofs.StockKept.{stock-more}
+use Rattle.tp_event_rules.specs.LiveStates.{seen}
+use Rattle.tp_event_rules.specs.Ready.{CanTakeEvents, KeepsStock}
 use Rattle.tp_session.proofs.session.SessionOver.restore.Goals as goal
 
 pub invariant_of-self : goal.invariant_of-self

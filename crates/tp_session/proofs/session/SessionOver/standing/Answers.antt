@@ -1,10 +1,10 @@
 -- Where the session stands is sound where its state can be saved.
 use Rattle.std.proofs.Common.{◌≡◌, ℕ, ◌≤◌, length, Result, Ok, Err, subst, sym}
 use Rattle.std.specs.Prelude.{IfOk}
-use Rattle.tp_sound.specs.Kept.{CanBeSaved}
-use Rattle.tp_standing.specs.Sound.{IsSound, last_number, most_jobs}
-use Rattle.tp_standing.specs.Told.{standing_of}
-use Rattle.tp_turn.specs.LiveStates.{seen}
+use Rattle.tp_session.specs.Kept.{CanBeSaved}
+use Rattle.tp_session_standing.specs.Sound.{IsSound, last_number, most_jobs}
+use Rattle.tp_session_standing.specs.Told.{standing_of}
+use Rattle.tp_event_rules.specs.LiveStates.{seen}
 use Rattle.tp_session.proofs.session.SessionOver.standing.Goals as goal
 
 if-told : {A E : Type 0} (P Q : A → Type 0) (r : Result A E) → ((x : A) → P x → Q x) → IfOk r P → IfOk r Q

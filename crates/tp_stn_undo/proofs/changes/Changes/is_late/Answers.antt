@@ -1,6 +1,6 @@
 use Rattle.std.proofs.Common.{arith, ◌≡◌, ◌∙◌, ◌-◌, List, ap, sym, subst, length, take, drop}
 use Rattle.std.proofs.lemmas.List.{drop-take, length-take-le}
-use Rattle.tp_stn_undo.specs.declared.states.SavedState.{SavedState}
+use Rattle.tp_stn_undo.specs.declared.point_state.SavedState.{SavedState}
 use Rattle.tp_stn_undo.specs.Flags.{Noted}
 use Rattle.tp_stn_undo.specs.Times.{IsOneMoved, KeepTimes}
 use Rattle.tp_stn_undo.specs.Saved.{restored}

@@ -1,6 +1,6 @@
 use Rattle.std.proofs.Common.{arith, ◌≡◌, ◌∙◌, ◌<◌, ◌++◌, ◌∷◌, [], List, drop, Bool, false, true, ap, sym, length, subst, set}
 use Rattle.std.proofs.lemmas.List.{length-set, length-map, length-append, length-drop, drop-append-le, get_or_read}
-use Rattle.tp_stn_undo.specs.declared.states.SavedState.{SavedState}
+use Rattle.tp_stn_undo.specs.declared.point_state.SavedState.{SavedState}
 use Rattle.tp_stn_undo.specs.Saved.{restored}
 use Rattle.tp_stn_undo.specs.Flags.{flag, points_in, Noted}
 use Rattle.tp_stn_undo.proofs.FlagFacts.{held_push, flagged-lt}

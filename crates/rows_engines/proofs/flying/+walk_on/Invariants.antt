@@ -1,5 +1,0 @@
-use Rattle.std.proofs.Common.{length}
-use Rattle.rows_engines.proofs.flying.+walk_on.Given as goal
-
-abbrev pub decreases-walk_on : goal.decreases-walk_on
-decreases-walk_on l = length l.acts.now

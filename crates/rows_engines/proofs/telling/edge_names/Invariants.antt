@@ -1,6 +1,0 @@
-use Rattle.std.proofs.Common.{◌≡◌, Some, map, take}
-use Rattle.rows_engines.specs.Telling.{edge_name}
-use Rattle.rows_engines.proofs.telling.edge_names.Given as goal
-
-abbrev pub invariant-edges : goal.invariant-edges
-invariant-edges g l = map Some l.names.items ≡ map (edge_name l.board) (take l.at l.edges)

@@ -1,4 +1,0 @@
-pub mod PlanFacts
-pub mod AlikeFacts
-pub mod AnswerFacts
-pub mod AskedFacts

@@ -1,0 +1,38 @@
+//! Bound trees: what they say, and that a tree that is right shows what it claims. The calls do
+//! nothing: their contracts are the laws.
+#![tactic(auto)]
+
+ghost use Rattle.tp_bound_laws.specs.Claims.{TreeTells};
+ghost use Rattle.tp_bound_laws.specs.Flaws.{FlawlessIsBound};
+ghost use Rattle.tp_bound_laws.specs.Laws.{TreeBounds};
+ghost use Rattle.tp_bound_laws.specs.Short.{FewHopsMakeShortLines};
+ghost use Rattle.tp_bound_laws.specs.Told.{HopsAreAllowed, HopsAreTold};
+
+mod claim;
+
+pub use claim::{Claim, TreeFlaw};
+
+/// Each alternative ends after the limit of a bound tree, and what a tree on the live part is for
+/// holds of the whole schedule.
+pub fn trees_show_bounds()
+    ensures bounds { TreeBounds }
+    ensures tells { TreeTells }
+{}
+
+/// The bound trees are those without a flaw.
+pub fn flawless_trees_are_bound()
+    ensures { FlawlessIsBound }
+{}
+
+/// Each hop of a board's reason but a stop and a limit is told in a tree, is allowed there, and says
+/// the same.
+pub fn reasons_are_allowed_hops()
+    ensures told { HopsAreTold }
+    ensures alone { HopsAreAllowed }
+{}
+
+/// Where no chain and no loop of a tree has more hops than there can be points, no line of its text
+/// is longer than 4,194,304 bytes.
+pub fn few_hops_make_short_lines()
+    ensures { FewHopsMakeShortLines }
+{}

@@ -1,0 +1,5 @@
+pub mod TellableReasons
+pub mod Closes
+pub mod RoomRows
+pub mod TreeProgress
+pub mod Ranges

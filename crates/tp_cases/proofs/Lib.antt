@@ -1,3 +1,0 @@
-mod EngineFacts
-mod MachineFacts
-mod ScriptFacts

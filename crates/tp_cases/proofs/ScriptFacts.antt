@@ -1,7 +1,0 @@
--- A script has 27 events.
-use Rattle.std.proofs.Common.{◌≡◌, ℕ, length, refl}
-use Rattle.tp_cases.specs.Scripts.{script}
-
-pub length-script : (x : ℕ) → length (script x) ≡ 27
-unfolding script
-length-script x = refl

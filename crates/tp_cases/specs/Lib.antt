@@ -1,6 +1,0 @@
-pub mod Draws
-pub mod Engines
-pub mod Machines
-pub mod Kept
-pub mod Scripts
-pub mod Cases

@@ -1,0 +1,97 @@
+//! A log read, its schedule drawn, and the picture written.
+ghost use Rattle.std.specs.Prelude.{◌≡◌, ◌⊎◌, ℕ, ◌<◌, length, IfOk, IfErr, IfSome, IsFalse, IsTrue};
+ghost use Rattle.tp_log.specs.Logs.{IsFirstOff, IsLog, log_text};
+ghost use Rattle.tp_outside.specs.Outside.{Rises};
+ghost use Rattle.tp_chart.specs.Bars.{bars_from};
+ghost use Rattle.tp_chart.specs.Pictures.{Draws};
+ghost use Rattle.tp_chart.specs.Runs.{Shows, is_of_input, is_of_show, may_have_written, most_log};
+ghost use Rattle.tp_chart.specs.Scenes.{sight_of};
+
+use crate::bars::bars_of;
+use crate::picture::draw;
+use crate::scene::scene_of;
+use crate::status::{Long, Status};
+use std::alloc::Global;
+use tp_base::{Memory, Tick};
+use tp_log::{Item, LogFault, read_log};
+use tp_machine::Machine;
+use tp_outside::{ReadError, Sink, Source, read_all, write_all};
+
+/// The most bytes of a log.
+const LOG_BYTES: usize = 1_073_741_824;
+
+/// Reads the log of the source. An `Err` is the status that the run ends with.
+fn read_items<S: Source>(alloc: Global, source: &mut S) -> Result<Vec<Item>, Status>
+    ensures log { IfOk result (λ log. IsLog log.items) }
+    ensures read { IfOk result (λ log. IfSome (S.left source.old)
+        (λ bytes. bytes ≡ log_text log.items)) }
+    ensures too_long { IfErr result (λ s. s ≡ Status.TooLong Long.Log
+        → IfSome (S.left source.old) (λ bytes. most_log < length bytes)) }
+    ensures line { IfErr result (λ s. (n : ℕ) → s ≡ Status.Line n
+        → IfSome (S.left source.old) (IsFirstOff n)) }
+    ensures source { IfErr result (λ s. s ≡ Status.Source
+        → Rises (S.faults source.old) (S.faults source.new)) }
+    ensures which { IfErr result (λ s. IsTrue (is_of_input s)) }
+{
+    let text = match read_all(alloc, source, LOG_BYTES) {
+        Ok(text) => text,
+        Err(ReadError::Memory) => return Err(Status::Memory),
+        Err(ReadError::Failed) => return Err(Status::Source),
+        Err(ReadError::TooLong) => return Err(Status::TooLong(Long::Log)),
+    };
+    match read_log(alloc, &text) {
+        Ok(items) => Ok(items),
+        Err(LogFault::Memory) => Err(Status::Memory),
+        Err(LogFault::Bad(n)) => Err(Status::Line(n)),
+    }
+}
+
+/// The picture of the schedule that the log tells, at the moment or at its end.
+fn picture_of(
+    alloc: Global,
+    machine: &Machine,
+    by_copies: bool,
+    until: Option<Tick>,
+    items: &[Item],
+) -> Result<Vec<u8>, Memory>
+    ensures { IfOk result (λ text. Draws (bars_from by_copies machine.now 0
+        (sight_of machine.now until items.now).courses) text.items) }
+{
+    let scene = scene_of(alloc, machine, until, items)?;
+    let bars = bars_of(alloc, by_copies, machine, scene.courses())?;
+    draw(alloc, by_copies, machine, &scene, &bars)
+}
+
+/// Reads the log and writes its picture.
+pub(crate) fn show<S: Source, K: Sink>(
+    alloc: Global,
+    machine: &Machine,
+    by_copies: bool,
+    until: Option<Tick>,
+    source: &mut S,
+    sink: &mut K,
+) -> Status
+    ensures done { result ≡ Status.Done → Shows machine.now by_copies until
+        (S.left source.old) (K.taken sink.old) (K.taken sink.new) }
+    ensures too_long { result ≡ Status.TooLong Long.Log
+        → IfSome (S.left source.old) (λ bytes. most_log < length bytes) }
+    ensures line { (n : ℕ) → result ≡ Status.Line n
+        → IfSome (S.left source.old) (IsFirstOff n) }
+    ensures source { result ≡ Status.Source
+        → Rises (S.faults source.old) (S.faults source.new) }
+    ensures sink { result ≡ Status.Sink → Rises (K.faults sink.old) (K.faults sink.new) }
+    ensures silent { IsFalse (may_have_written result) → sink.new ≡ sink.old }
+    ensures which { IsTrue (is_of_show result) }
+{
+    let items = match read_items(alloc, source) {
+        Ok(items) => items,
+        Err(status) => return status,
+    };
+    let Ok(text) = picture_of(alloc, machine, by_copies, until, &items) else {
+        return Status::Memory;
+    };
+    match write_all(sink, &text) {
+        Ok(()) => Status::Done,
+        Err(_) => Status::Sink,
+    }
+}

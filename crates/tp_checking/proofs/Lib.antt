@@ -1,4 +1,0 @@
-pub mod Lines
-pub mod Feeding
-pub mod Stopping
-pub mod Ending

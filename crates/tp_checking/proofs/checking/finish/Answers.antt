@@ -1,9 +1,0 @@
--- A flaw that is told at the end lies in what is told of the last event.
-use Rattle.std.proofs.Common.{rules, ◌≢◌}
-use Rattle.tp_log_check.specs.declared.flaw.Flaw.TheVariants.{Memory as WantsMemory}
-use Rattle.tp_checking.proofs.checking.finish.Goals as goal
-
-pub returns-in-Err : goal.returns-in-Err
-returns-in-Err c =
-    let known : c.in-Err.flaw ≢ WantsMemory = search rules in
-    record { accepted = tt; ends = (known, λ told h. (c.in-Err.ensures.lies known told h, c.in-Err.ensures.why known told h)) }

@@ -1,4 +1,0 @@
-pub mod Summary
-pub mod Sizes
-pub mod Taking
-pub mod Ends

@@ -1,6 +1,0 @@
-use Rattle.std.proofs.Common.{All, take}
-use Rattle.tp_deciding.specs.Bounds.{EndsWithin}
-use Rattle.tp_deciding.proofs.bounds.find_past_horizon.Given as goal
-
-abbrev pub invariant-plans : goal.invariant-plans
-invariant-plans l = All (EndsWithin l.horizon) (take l.place l.schedule.plans)

@@ -1,7 +1,0 @@
-use Rattle.tp_deciding.specs.Early.{is_exempt}
-use Rattle.tp_deciding.proofs.NumberFacts.{marks-more}
-use Rattle.tp_deciding.proofs.early.low_marks.Goals as goal
-
-pub plans-preserved : goal.plans-preserved
-plans-preserved c =
-    marks-more c.args.floor (is_exempt c.args.exempt) c.args.schedule.now.plans c.plans.at c.plan_at.result.now c.plans.marks.items c.add_marks.new.marks.items c.plan_at.ensures.plan c.plans.invariant c.in_ok-add_marks.ensures

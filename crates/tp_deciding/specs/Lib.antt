@@ -1,9 +1,0 @@
-pub mod Timed
-pub mod Holds
-pub mod Lines
-pub mod Clashes
-pub mod Marks
-pub mod Early
-pub mod Bounds
-pub mod Misfits
-pub mod Partings

@@ -1,2 +1,0 @@
-pub mod PendingFacts
-pub mod HeightFacts

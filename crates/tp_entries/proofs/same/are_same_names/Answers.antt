@@ -1,5 +1,0 @@
-use Rattle.std.proofs.lemmas.Slice.Eq.{bytes_eq-Decides, slice_eq-Decides}
-use Rattle.tp_entries.proofs.same.are_same_names.Goals as goal
-
-pub returns : goal.returns
-returns c = slice_eq-Decides bytes_eq-Decides c.args.one.now c.args.other.now c.eq.result c.eq.ensures

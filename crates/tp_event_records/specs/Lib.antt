@@ -1,0 +1,2 @@
+pub mod RecordNames
+pub mod Spans

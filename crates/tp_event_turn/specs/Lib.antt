@@ -1,0 +1,9 @@
+pub mod ClockNames
+pub mod Phases
+pub mod LiveAnswers
+pub mod LiveTurns
+pub mod Events
+pub mod Stops
+pub mod WholeTurns
+pub mod ModuleChecks
+pub mod KeptPoints

@@ -1,0 +1,2 @@
+pub mod AcceptedEntries
+pub mod EntryTurns

@@ -1,0 +1,9 @@
+pub mod TakenAnswers
+pub mod Failures
+pub mod ToldMoves
+pub mod ToldPlans
+pub mod DueTrees
+pub mod ToldAnswers
+pub mod Breaches
+pub mod Reasons
+pub mod Stops

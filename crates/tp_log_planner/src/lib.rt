@@ -1,0 +1,18 @@
+//! A planner that takes its answers from a log: the records and trees of one event.
+#![tactic(auto)]
+
+mod action_names;
+mod alone;
+mod asides;
+mod faults;
+mod points;
+mod settled_times;
+mod stop;
+mod told;
+mod told_answer;
+mod told_moves;
+mod told_plan;
+mod trees;
+
+pub use stop::{Reason, Stop};
+pub use told::Told;

@@ -1,5 +1,0 @@
-use Rattle.tp_log_runs.proofs.Told.{turns-accepted}
-use Rattle.tp_log_runs.proofs.laws.told_turns_are_whole.Goals as goal
-
-pub returns : goal.returns
-returns g c = turns-accepted g.P.Planner.rules

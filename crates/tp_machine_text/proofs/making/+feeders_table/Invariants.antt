@@ -1,5 +1,0 @@
-use Rattle.std.proofs.Common.{length}
-use Rattle.tp_machine_text.proofs.making.+feeders_table.Given as goal
-
-abbrev pub decreases-feeders_table : goal.decreases-feeders_table
-decreases-feeders_table l = length l.feeders.now

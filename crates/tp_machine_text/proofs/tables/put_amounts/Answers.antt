@@ -1,5 +1,0 @@
-use Rattle.tp_machine_text.proofs.Fitting.{feeders_fit}
-use Rattle.tp_machine_text.proofs.tables.put_amounts.Goals as goal
-
-pub stocks_table-requires-clause-known : goal.stocks_table-requires-clause-known
-stocks_table-requires-clause-known c = let m = c.args.machine.now in rw c.as_slice-2.ensures (feeders_fit m.locations m.trays m.purges m.feeders m.good_feeders)

@@ -1,6 +1,0 @@
-use Rattle.std.proofs.Common.{◌≡◌, true, take, All}
-use Rattle.tp_schedule.specs.Living.{is_live}
-use Rattle.tp_placing.proofs.following.are_live.Given as goal
-
-abbrev pub invariant-loop-plan : goal.invariant-loop-plan
-invariant-loop-plan l = All (λ p. is_live l.machine l.now p ≡ true) (take l.plan-index l.plans)

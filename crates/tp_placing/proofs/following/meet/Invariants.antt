@@ -1,6 +1,0 @@
-use Rattle.std.proofs.Common.{◌≡◌, filter, take}
-use Rattle.tp_schedule.specs.Living.{is_live}
-use Rattle.tp_placing.proofs.following.meet.Given as goal
-
-abbrev pub invariant-loop-at : goal.invariant-loop-at
-invariant-loop-at l = filter (is_live l.machine l.now) (take l.at l.plans.items) ≡ filter (is_live l.machine l.now) (take l.from l.plans.items)

@@ -1,6 +1,0 @@
-use Rattle.std.proofs.Common.{◌≡◌, ◌++◌, flat_map, take}
-use Rattle.tp_turn.specs.Clock.{releases}
-use Rattle.tp_release.proofs.gathering.tell_all_releases.Given as goal
-
-abbrev pub invariant-loop-at : goal.invariant-loop-at
-invariant-loop-at l = l.told.items ≡ l.fn.told.items ++ flat_map (releases l.machine l.to) (take l.at l.schedule.plans)

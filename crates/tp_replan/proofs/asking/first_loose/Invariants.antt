@@ -1,7 +1,0 @@
-use Rattle.std.proofs.Common.{◌≡◌, find, take, None}
-use Rattle.tp_turn.specs.LiveStates.{seen}
-use Rattle.tp_turn.specs.Loops.{is_loose}
-use Rattle.tp_replan.proofs.asking.first_loose.Given as goal
-
-abbrev pub invariant-loop-at : goal.invariant-loop-at
-invariant-loop-at l = find (is_loose (seen l.state)) (take l.at l.state.schedule.plans) ≡ None

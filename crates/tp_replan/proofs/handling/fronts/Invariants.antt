@@ -1,6 +1,0 @@
-use Rattle.std.proofs.Common.{◌≡◌, take}
-use Rattle.tp_turn.specs.Seen.{fronts_of}
-use Rattle.tp_replan.proofs.handling.fronts.Given as goal
-
-abbrev pub invariant-loop-at : goal.invariant-loop-at
-invariant-loop-at l = l.copies.items ≡ fronts_of (take l.at l.schedule.plans)

@@ -1,0 +1,9 @@
+pub mod Runs
+pub mod CarriedTurns
+pub mod Wholes
+pub mod EventRuns
+pub mod Ends
+pub mod GoingOn
+pub mod Told
+pub mod Proved
+pub mod Promised

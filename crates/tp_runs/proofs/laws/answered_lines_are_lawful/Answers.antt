@@ -1,5 +1,0 @@
-use Rattle.tp_runs.proofs.Lawful.{lines_lawful}
-use Rattle.tp_runs.proofs.laws.answered_lines_are_lawful.Goals as goal
-
-pub returns : goal.returns
-returns c = lines_lawful

@@ -1,5 +1,0 @@
-use Rattle.tp_runs.proofs.Scripts.{scripts_lawful}
-use Rattle.tp_runs.proofs.laws.answered_scripts_are_lawful.Goals as goal
-
-pub returns : goal.returns
-returns c = scripts_lawful

@@ -1,5 +1,0 @@
-use Rattle.tp_runs.proofs.OnWhole.{turns-on_whole}
-use Rattle.tp_runs.proofs.laws.live_turns_are_whole.Goals as goal
-
-pub returns : goal.returns
-returns g c = turns-on_whole g.P.Planner.rules

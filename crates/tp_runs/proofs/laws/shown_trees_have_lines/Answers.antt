@@ -1,5 +1,0 @@
-use Rattle.tp_runs.proofs.Carry.{trees-have_lines}
-use Rattle.tp_runs.proofs.laws.shown_trees_have_lines.Goals as goal
-
-pub returns : goal.returns
-returns g c = trees-have_lines g.P.Planner.rules

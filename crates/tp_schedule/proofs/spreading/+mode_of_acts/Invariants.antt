@@ -1,5 +1,0 @@
-use Rattle.std.proofs.Common.{length}
-use Rattle.tp_schedule.proofs.spreading.+mode_of_acts.Given as goal
-
-abbrev pub decreases-mode_of_acts : goal.decreases-mode_of_acts
-decreases-mode_of_acts l = length l.acts.now

@@ -1,5 +1,0 @@
-use Rattle.std.proofs.Common.{length}
-use Rattle.tp_schedule.proofs.spreading.+mode_of_plans.Given as goal
-
-abbrev pub decreases-mode_of_plans : goal.decreases-mode_of_plans
-decreases-mode_of_plans l = length l.plans.now

@@ -1,0 +1,17 @@
+pub mod ListFacts
+pub mod TimedFacts
+pub mod PairFacts
+pub mod HeldFacts
+pub mod ClearFacts
+pub mod LineFacts
+pub mod MarkFacts
+pub mod StepFacts
+pub mod ChainFacts
+pub mod NumberFacts
+pub mod EarlyFacts
+pub mod MisfitFacts
+pub mod PartingFacts
+pub mod PlanFacts
+pub mod AlikeFacts
+pub mod AnswerFacts
+pub mod AskedFacts

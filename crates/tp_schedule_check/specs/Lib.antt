@@ -1,0 +1,12 @@
+pub mod Timed
+pub mod Holds
+pub mod Lines
+pub mod Clashes
+pub mod Marks
+pub mod Early
+pub mod Bounds
+pub mod Misfits
+pub mod OrderDifferences
+pub mod Alike
+pub mod Asked
+pub mod Faults

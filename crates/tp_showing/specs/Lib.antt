@@ -1,5 +1,0 @@
-pub mod Tellings
-pub mod Closes
-pub mod RoomRows
-pub mod Showing
-pub mod Ranges

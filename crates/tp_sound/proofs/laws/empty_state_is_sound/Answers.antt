@@ -1,5 +1,0 @@
-use Rattle.tp_sound.proofs.TurnKeeps.{sound-empty}
-use Rattle.tp_sound.proofs.laws.empty_state_is_sound.Goals as goal
-
-pub returns : goal.returns
-returns c machine = record { can = c.empty_state_can_begin.ensures.can machine; stocked = c.empty_state_can_begin.ensures.stocked machine; sound = sound-empty machine }

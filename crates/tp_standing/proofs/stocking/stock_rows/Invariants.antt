@@ -1,7 +1,0 @@
-use Rattle.std.proofs.Common.{◌≡◌, map, take}
-use Rattle.tp_turn.specs.LiveStates.{seen}
-use Rattle.tp_standing.specs.Told.{free_sheets}
-use Rattle.tp_standing.proofs.stocking.stock_rows.Given as goal
-
-abbrev pub invariant-feeders : goal.invariant-feeders
-invariant-feeders l = l.rows ≡ map (free_sheets l.fn.machine (seen l.fn.state)) (take l.at l.fn.machine.feeders)

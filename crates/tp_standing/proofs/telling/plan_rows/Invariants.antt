@@ -1,5 +1,0 @@
-use Rattle.std.proofs.Common.{◌≡◌, take}
-use Rattle.tp_standing.proofs.telling.plan_rows.Given as goal
-
-abbrev pub invariant-plans : goal.invariant-plans
-invariant-plans l = l.rows ≡ take l.at l.schedule.plans

@@ -1,4 +1,0 @@
-use Rattle.tp_stn_core.proofs.changing.PlainNetNetwork.load.Goals as goal
-
-pub unreachable-requires : goal.unreachable-requires
-unreachable-requires c = let s = c.requires.solution in c.in-Err.ensures.late s.0 s.1

@@ -1,0 +1,86 @@
+use Rattle.std.proofs.Common.{arith, length, ap, sym, refl, ◌∙◌}
+use Rattle.std.specs.Vec.{with_items}
+use Rattle.tp_base.proofs.LeastFacts.{mut_items}
+use Rattle.tp_stn_undo.specs.declared.live_net.LiveNet.TheInside.{Inside}
+use Rattle.tp_stn_undo.specs.Marks.{nets_of}
+use Rattle.tp_stn_undo.specs.LiveState.{LiveState}
+use Rattle.tp_stn_undo.specs.AddedEdges.{Adds}
+use Rattle.tp_stn_undo.proofs.SoundFacts.{links_len}
+use Rattle.tp_stn_undo.proofs.ChangeFacts.{stack_of, can_save, stack_by, past_by}
+use Rattle.tp_stn_undo.proofs.AddFacts.{linked_len}
+use Rattle.tp_stn_undo.proofs.ChangedFacts.{IsChanged, HoldsTogether, as_it_was, changed_live, changed_past, added_holds}
+use Rattle.tp_stn_undo.proofs.network.LiveNetNetwork.load.Goals as goal
+use Rattle.tp_stn_undo.proofs.network.LiveNetNetwork.load.Goals.{After-load_edges, After-save_changes}
+
+added : (c : After-load_edges) → Adds c.args.edges.now c.self.inside.caps.items c.self.inside.links.items c.load_edges.new.links.items c.self.inside.states.items c.load_edges.new.states c.load_edges.new.working.changes.entries
+added c = rw (c.deref.ensures.value, c.deref_mut-2.ensures.value) at c.load_edges.ensures.added
+
+pub save_changes-requires : goal.save_changes-requires
+save_changes-requires c =
+    let k = (goal.at.save_changes-requires c).After-load_edges in
+    let a = c.self.inside in
+    let inv = c.self.invariant in
+    record { ready = rw c.deref-2.ensures.value (can_save a inv c.load_edges.new.working.changes (length a.states.items) (length a.links.items) c.load_edges.ensures.sizes.noted inv.points (stack_of a inv (length a.links.items) (omega arith)) (added k).known) }
+
+abbrev after : After-save_changes → Inside
+after c = record {
+  max_points = c.self.inside.max_points;
+  max_edges = c.self.inside.max_edges;
+  max_marks = c.self.inside.max_marks;
+  states = with_items c.self.inside.states c.load_edges.new.states;
+  caps = c.self.inside.caps;
+  links = c.load_edges.new.links;
+  heads = with_items c.self.inside.heads c.load_edges.new.heads;
+  working = record { waiting = c.load_edges.new.working.waiting; changes = c.save_changes.new.changes; path = c.load_edges.new.working.path; places = c.load_edges.new.working.places };
+  kept = c.self.inside.kept;
+  marks = c.self.inside.marks;
+}
+
+changed : (c : After-save_changes) → IsChanged c.self.inside (after c) c.load_edges.new.states c.self.inside.caps.items c.load_edges.new.links.items c.load_edges.new.heads
+changed c =
+    let a = c.self.inside in
+    let e = c.load_edges.ensures in
+    let s = c.save_changes.ensures in
+    record {
+      states = mut_items a.states.len c.load_edges.new.states _ (c.load_edges.auto.states ∙ ap length c.deref_mut-2.ensures.value ∙ sym a.states.ok.0);
+      caps = refl;
+      links = refl;
+      heads = mut_items a.heads.len c.load_edges.new.heads _ (c.load_edges.auto.heads ∙ ap length c.deref_mut.ensures.value ∙ sym a.heads.ok.0);
+      marks = refl;
+      points_same = refl;
+      edges_same = refl;
+      marks_same = refl;
+      states_capacity = refl;
+      caps_capacity = refl;
+      links_capacity = e.capacity;
+      heads_capacity = refl;
+      marks_capacity = refl;
+      waits = e.sizes.waits;
+      noted = s.capacity ∙ e.sizes.noted.capacity;
+      most = s.most ∙ e.sizes.noted.most;
+      path = e.sizes.path;
+      places = e.sizes.places;
+      rest = record { idle = e.idle; none = e.none; unchanged = s.none; zeros = e.zeros };
+    }
+
+holds : (c : After-save_changes) → HoldsTogether c.self.inside c.load_edges.new.states c.self.inside.caps.items c.load_edges.new.links.items c.load_edges.new.heads c.save_changes.new.changes.older
+holds c =
+    let a = c.self.inside in
+    let k = (goal.at.invariant_of-self c).After-load_edges in
+    let ad = added k in
+    let n = linked_len a.links.items c.load_edges.new.links.items c.args.edges.now ad.linked in
+    let v = ap (λ (s : LiveState). length s.net.edges) c.self.view_is in
+    let r = ap (λ (s : LiveState). s.max_edges) c.self.view_is in
+    let l = links_len a.links.items in
+    let q = c.requires.spare in
+    added_holds a c.self.invariant a.states.items c.load_edges.new.states a.caps.items c.load_edges.new.links.items a.heads.items c.args.edges.now c.load_edges.new.working.changes.entries c.save_changes.new.changes.older
+    (as_it_was a c.self.invariant) ad (omega arith) c.load_edges.new.heads (rw c.deref_mut-2.ensures.value at c.load_edges.ensures.linked) (stack_by a.marks.items _ a.working.changes c.load_edges.new.working.changes c.save_changes.new.changes.older c.deref-2.ensures.value c.load_edges.ensures.sizes.noted c.save_changes.ensures.stack) (past_by a.marks.items _ a.working.changes c.load_edges.new.working.changes c.save_changes.new.changes.older c.deref-2.ensures.value c.load_edges.ensures.sizes.noted c.save_changes.ensures.past)
+
+pub invariant_of-self : goal.invariant_of-self
+invariant_of-self c = changed_live c.self.inside c.self.invariant (after c) c.load_edges.new.states c.self.inside.caps.items c.load_edges.new.links.items c.load_edges.new.heads (changed c) (holds c)
+
+pub returns-clause-solved : goal.returns-clause-solved
+returns-clause-solved c = (_, (invariant_of-self c).sound.least)
+
+pub returns-clause-past : goal.returns-clause-past
+returns-clause-past c = ap nets_of (changed_past c.self.inside c.self.invariant (after c) c.load_edges.new.states c.self.inside.caps.items c.load_edges.new.links.items c.load_edges.new.heads (changed c) (holds c)) ∙ ap (λ (s : LiveState). s.past) c.self.view_is

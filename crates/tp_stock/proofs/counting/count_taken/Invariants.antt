@@ -1,6 +1,0 @@
-use Rattle.std.proofs.Common.{take}
-use Rattle.tp_stock.proofs.CountFacts.{Counted}
-use Rattle.tp_stock.proofs.counting.count_taken.Given as goal
-
-abbrev pub invariant-plans : goal.invariant-plans
-invariant-plans l = Counted l.machine l.counts (take l.at l.schedule.plans)

@@ -1,8 +1,0 @@
-use Rattle.std.proofs.Common.{◌≡◌, ◌≤◌, ◌++◌, drop, length}
-use Rattle.tp_telling.proofs.telling.points_from.Given as goal
-
-abbrev pub invariant-loop-at : goal.invariant-loop-at
-invariant-loop-at l = record {
-  rest : l.items ++ drop l.at l.points ≡ drop l.from l.points;
-  few : length l.items ≤ l.at;
-}

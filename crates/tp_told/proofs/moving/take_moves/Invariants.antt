@@ -1,5 +1,0 @@
-use Rattle.tp_told.proofs.MoveSteps.{MovedSoFar}
-use Rattle.tp_told.proofs.moving.take_moves.Given as goal
-
-abbrev pub invariant-plans : goal.invariant-plans
-invariant-plans l = MovedSoFar l.machine l.moving.moment l.moving.asked l.before.plans l.after.plans l.items l.at l.taken

@@ -1,7 +1,0 @@
-use Rattle.std.proofs.Common.{◌≢◌, ◌<◌}
-use Rattle.tp_machine.specs.declared.parts.ActId.{ActId}
-use Rattle.tp_turn.specs.Labels.{action_name}
-use Rattle.tp_told.proofs.naming.act_named.Given as goal
-
-abbrev pub invariant-acts : goal.invariant-acts
-invariant-acts l = (act : ActId) → act.0 < l.at → action_name l.machine act ≢ l.name

@@ -1,9 +1,0 @@
-pub mod Answering
-pub mod Failing
-pub mod Moving
-pub mod Planning
-pub mod Showing
-pub mod Telling
-pub mod Breaches
-pub mod Reasons
-pub mod Stopping

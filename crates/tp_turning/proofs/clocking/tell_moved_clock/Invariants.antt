@@ -1,8 +1,0 @@
-use Rattle.std.proofs.Common.{◌≡◌, ◌++◌, map, take}
-use Rattle.tp_turn.specs.Clock.{record_of}
-use Rattle.tp_turning.proofs.clocking.tell_moved_clock.Given as goal
-
-abbrev pub invariant-loop-tell : goal.invariant-loop-tell
-invariant-loop-tell l = record {
-  told : l.notes.items ≡ l.fn.notes.items ++ map (record_of l.machine l.lines.jobs) (take l.tell-index l.tells);
-}
