@@ -31,18 +31,12 @@ use tp_placing::Board;
 use tp_routes::Rooms;
 use tp_schedule::Ask;
 
-/// How many searches seek no limit after a dive for one failed: a machine on which such dives fail is not asked again at each
-/// sheet.
-const PAUSE: u32 = 16;
-
 /// All that a search takes memory for. It is for machines with the same numbers of locations and resources and the same
 /// window as the one that it was made for. It stores as many lists as it has nodes: the budget of an ask.
 pub struct Workspace {
     rooms: Rooms,
     store: Store,
     goals: Vec<OpenGoal>,
-    /// How many searches more seek no limit.
-    pause: u32,
 }
 
 // What becomes of its parts is proved here, once for all who let go of one.
@@ -52,7 +46,6 @@ impl Drop for Workspace {
             rooms: _,
             store: _,
             goals: _,
-            pause: _,
         } = self;
     }
 }
@@ -79,7 +72,6 @@ impl Workspace {
             rooms: Rooms::new(alloc, machine)?,
             store: Store::new(alloc, nodes, machine.window + 1)?,
             goals: Vec::with_capacity(alloc, locations as usize * 8)?,
-            pause: 0,
         })
     }
 
@@ -114,33 +106,10 @@ impl Workspace {
         ensures rooms { KeepsRooms self.new.rooms machine.now }
     {
         self.rooms.renew(machine, ask);
-        let limit = self.first_limit();
-        let outcome = self.search_to(board, machine, ask, limit);
-        self.note_limit(limit);
+        let outcome = self.search_to(board, machine, ask, Limit::Sought);
         match outcome {
             Outcome::Again => self.search_to(board, machine, ask, Limit::Unsought),
             ended => ended,
-        }
-    }
-
-    /// The limit with which the next search begins. None is sought while the workspace pauses.
-    fn first_limit(&mut self) -> Limit
-        ensures none { HasNoLimit result }
-        ensures same { self.new ≡ self.old }
-    {
-        if self.pause == 0 {
-            return Limit::Sought;
-        }
-        self.pause -= 1;
-        Limit::Unsought
-    }
-
-    /// Pauses, where the search began by seeking a limit and found none.
-    fn note_limit(&mut self, begun: Limit)
-        ensures { self.new ≡ self.old }
-    {
-        if let (Limit::Sought, Limit::Unsought) = (begun, self.store.limit()) {
-            self.pause = PAUSE;
         }
     }
 

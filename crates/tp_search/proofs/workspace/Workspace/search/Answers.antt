@@ -38,6 +38,6 @@ search_to-requires-clause-marks g c = (let b = back g (goal.at.search_to-require
 
 pub returns-in-Again-clause-outcome : goal.returns-in-Again-clause-outcome
 returns-in-Again-clause-outcome g c =
-    let same = ap (λ (w : WorkspaceValue). w.nodes) (c.note_limit.ensures ∙ c.search_to-outcome.ensures.same ∙ c.first_limit-limit.ensures.same) ∙ ap (λ (w : WorkspaceValue). w.nodes) c.self.view_is in
+    let same = ap (λ (w : WorkspaceValue). w.nodes) c.search_to-outcome.ensures.same ∙ ap (λ (w : WorkspaceValue). w.nodes) c.self.view_is in
     outcome-back g.N.Network.reading c.args.board.now c.search_to-outcome.new.board c.search_to.new.board c.args.machine.now c.args.ask.now (back g (goal.at.returns-in-Again-clause-outcome g c).In-Again) c.args.self.now.nodes c.search_to.result
     (subst (λ n. IsOutcome g.N.Network.reading c.search_to-outcome.new.board c.search_to.new.board c.args.machine.now c.args.ask.now n c.search_to.result) same c.search_to.ensures.outcome)
