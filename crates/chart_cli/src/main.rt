@@ -3,13 +3,13 @@
 
 use std::io;
 use std::process::ExitCode;
-use tp_chart::{Status, chart_main};
+use tp_chart::{ChartStatus, chart_main};
 use tp_outside::{FileShelf, StdSink, StdSource, words};
 
-fn run(rt: &HostRuntime) -> Status {
+fn run(rt: &HostRuntime) -> ChartStatus {
     let alloc = rt.alloc();
     let Ok(words) = words(alloc, rt) else {
-        return Status::Memory;
+        return ChartStatus::Memory;
     };
     let mut shelf = FileShelf::new(alloc, rt);
     let mut source = StdSource::new(rt.reader());
@@ -19,7 +19,7 @@ fn run(rt: &HostRuntime) -> Status {
 
 fn main(rt: HostRuntime) -> ExitCode {
     let status = run(&rt);
-    if status != Status::Done {
+    if status != ChartStatus::Done {
         // A standard error that can't be written changes no status.
         let _ = eprintln!(rt; "{status}");
     }

@@ -10,9 +10,9 @@ use Rattle.tp_chart.specs.Bars.{bars_from}
 use Rattle.tp_chart.specs.Pictures.{Draws}
 use Rattle.tp_chart.specs.Scenes.{sight_of}
 use Rattle.tp_chart.specs.Words.{Asked, chart_asked}
-use Rattle.tp_chart.specs.declared.status.Long.TheVariants as size
-use Rattle.tp_chart.specs.declared.status.Status.{Status}
-use Rattle.tp_chart.specs.declared.status.Status.TheVariants as status
+use Rattle.tp_chart.specs.declared.chart_status.LongText.TheVariants as size
+use Rattle.tp_chart.specs.declared.chart_status.ChartStatus.{ChartStatus}
+use Rattle.tp_chart.specs.declared.chart_status.ChartStatus.TheVariants as status
 
 abbrev pub most_text : ℕ
 most_text = 1048576
@@ -59,20 +59,20 @@ module _ (words : List (List ℕ)) (told : Option Files) where
     pub shows : Shows machine asked.by_copies asked.until left taken taken'
 
 -- the machine text can't be read, or is none
-abbrev pub is_of_machine : Status → Bool
+abbrev pub is_of_machine : ChartStatus → Bool
 is_of_machine (status.Machine f) = true
 is_of_machine status.Shelf = true
 is_of_machine (status.TooLong size.MachineText) = true
 is_of_machine _ = false
 
 -- something may have been written
-abbrev pub may_have_written : Status → Bool
+abbrev pub may_have_written : ChartStatus → Bool
 may_have_written status.Done = true
 may_have_written status.Sink = true
 may_have_written _ = false
 
 -- the log can't be read, or is none; or memory is wanted
-abbrev pub is_of_input : Status → Bool
+abbrev pub is_of_input : ChartStatus → Bool
 is_of_input status.Memory = true
 is_of_input status.Source = true
 is_of_input (status.TooLong size.Log) = true
@@ -80,5 +80,5 @@ is_of_input (status.Line n) = true
 is_of_input _ = false
 
 -- how a run with a machine may end
-abbrev pub is_of_show : Status → Bool
+abbrev pub is_of_show : ChartStatus → Bool
 is_of_show s = is_of_input s || may_have_written s

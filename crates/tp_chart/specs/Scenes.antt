@@ -12,28 +12,28 @@ use Rattle.tp_script.specs.declared.event.Event.TheVariants.{Bad, Job, Clock, Ja
 use Rattle.tp_log.specs.declared.item.Item.{Item}
 use Rattle.tp_log.specs.declared.item.Item.TheVariants.{Event, Note, Tree}
 use Rattle.tp_chart.specs.Courses.{Way, fresh, is_same_copy, tell_course}
-use Rattle.tp_chart.specs.declared.outage.Outage.{Outage}
+use Rattle.tp_chart.specs.declared.out_span.OutSpan.{OutSpan}
 
 pub record Sight : Type 0 where
   pub moment : ℕ
   pub courses : List Way
-  pub outages : List Outage
+  pub outages : List OutSpan
 
 abbrev pub nothing : Sight
 nothing = record { moment = 0; courses = []; outages = [] }
 
 -- ---- modules that go out and come back
 
-abbrev pub is_out_in : ℕ → Outage → Bool
+abbrev pub is_out_in : ℕ → OutSpan → Bool
 is_out_in number o = (o.number == number) && is_none o.end
 
-abbrev pub is_out : ℕ → List Outage → Bool
+abbrev pub is_out : ℕ → List OutSpan → Bool
 is_out number outages = list_any (is_out_in number) outages
 
-abbrev pub ended : ℕ → ℕ → Outage → Outage
+abbrev pub ended : ℕ → ℕ → OutSpan → OutSpan
 ended number moment o = if is_out_in number o then record { number = number; begin = o.begin; end = Some moment } else o
 
-abbrev pub begun : ℕ → ℕ → Outage
+abbrev pub begun : ℕ → ℕ → OutSpan
 begun number moment = record { number = number; begin = moment; end = None }
 
 -- a module that is out already, or unknown, does not go out

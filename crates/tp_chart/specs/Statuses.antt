@@ -3,10 +3,10 @@ use Rattle.std.specs.Prelude.{ℕ, List, ◌++◌, codes}
 use Rattle.std.specs.Fmt.{decimal}
 use Rattle.tp_machine_text.specs.declared.machine_reader.MachineFault.{MachineFault}
 use Rattle.tp_machine_text.specs.declared.machine_reader.MachineFault.TheVariants as fault
-use Rattle.tp_chart.specs.declared.status.Status.{Status}
-use Rattle.tp_chart.specs.declared.status.Status.TheVariants as status
+use Rattle.tp_chart.specs.declared.chart_status.ChartStatus.{ChartStatus}
+use Rattle.tp_chart.specs.declared.chart_status.ChartStatus.TheVariants as status
 
-abbrev pub status_number : Status → ℕ
+abbrev pub status_number : ChartStatus → ℕ
 status_number status.Done = 0
 status_number status.Memory = 1
 status_number status.Usage = 2
@@ -22,7 +22,7 @@ fault_line fault.Memory = codes "out of memory"
 fault_line fault.NotToml = codes "not TOML"
 fault_line (fault.Rule n) = codes "rule " ++ decimal n
 
-abbrev pub status_line : Status → List ℕ
+abbrev pub status_line : ChartStatus → List ℕ
 status_line status.Done = codes ""
 status_line status.Memory = codes "chart: out of memory"
 status_line status.Usage = codes "chart: usage: chart [--sheets] [--at T] MACHINE"

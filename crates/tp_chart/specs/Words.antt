@@ -6,7 +6,7 @@ use Rattle.clap.specs.Words.{App, Kinds, Row, Rule, Text, fault_of, matches_of, 
 use Rattle.clap.specs.Simple.{on_top}
 use Rattle.clap.specs.declared.builder.action.ArgAction.TheVariants.{Append}
 use Rattle.tp_words.specs.Numbers.{number_of}
-use Rattle.tp_chart.specs.declared.words.Request as code
+use Rattle.tp_chart.specs.declared.words.ChartRequest as code
 
 -- ---- the command: words, a flag `--sheets`, and an option `--at` with a value
 
@@ -75,7 +75,7 @@ abbrev pub chart_asked : List Text → Option Asked
 chart_asked words = if is_none (fault_of chart words) then asked_in (matches_of chart words) else None
 
 -- a request as its texts and numbers
-abbrev pub seen : code.Request → Asked
+abbrev pub seen : code.ChartRequest → Asked
 seen r = record { machine = r.machine.now; by_copies = r.by_copies; until = r.until }
 
 -- what references to texts point to

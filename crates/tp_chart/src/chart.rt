@@ -6,10 +6,10 @@ ghost use Rattle.tp_outside.specs.Outside.{Rises};
 ghost use Rattle.tp_chart.specs.Runs.{IsCharted, NamesLongText, NamesText, may_have_written, most_log};
 ghost use Rattle.tp_chart.specs.Words.{chart_asked};
 
+use crate::chart_status::{ChartStatus, LongText};
 use crate::log_picture::show;
 use crate::machine::find_machine;
-use crate::status::{Long, Status};
-use crate::words::{WordsFault, read_words};
+use crate::words::{ChartWordsFault, read_words};
 use std::alloc::Global;
 use tp_machine_text::MachineFault;
 use tp_outside::{Shelf, Sink, Source};
@@ -23,45 +23,45 @@ pub fn chart_main<H: Shelf, S: Source, K: Sink>(
     shelf: &mut H,
     source: &mut S,
     sink: &mut K,
-) -> Status
+) -> ChartStatus
     // The words ask for no picture. Want of memory may come first.
-    ensures usage { result ≡ Status.Usage → chart_asked (map string_bytes words.now) ≡ None }
+    ensures usage { result ≡ ChartStatus.Usage → chart_asked (map string_bytes words.now) ≡ None }
     ensures used { chart_asked (map string_bytes words.now) ≡ None
-        → (result ≡ Status.Usage) ⊎ (result ≡ Status.Memory) }
+        → (result ≡ ChartStatus.Usage) ⊎ (result ≡ ChartStatus.Memory) }
 
     // The machine text is too long, or is none.
-    ensures long_text { result ≡ Status.TooLong Long.MachineText
+    ensures long_text { result ≡ ChartStatus.TooLong LongText.MachineText
         → NamesLongText (map string_bytes words.now) (H.told shelf.old) }
-    ensures not_toml { result ≡ Status.Machine MachineFault.NotToml
+    ensures not_toml { result ≡ ChartStatus.Machine MachineFault.NotToml
         → NamesText (map string_bytes words.now) (H.told shelf.old) IsNotToml }
-    ensures rule { (n : ℕ) → result ≡ Status.Machine (MachineFault.Rule n)
+    ensures rule { (n : ℕ) → result ≡ ChartStatus.Machine (MachineFault.Rule n)
         → NamesText (map string_bytes words.now) (H.told shelf.old) (IsBrokenAt n) }
-    ensures no_memory { result ≢ Status.Machine MachineFault.Memory }
+    ensures no_memory { result ≢ ChartStatus.Machine MachineFault.Memory }
 
     // The log is too long, or a line of it is off the grammar.
-    ensures long_log { result ≡ Status.TooLong Long.Log
+    ensures long_log { result ≡ ChartStatus.TooLong LongText.Log
         → IfSome (S.left source.old) (λ bytes. most_log < length bytes) }
-    ensures line { (n : ℕ) → result ≡ Status.Line n
+    ensures line { (n : ℕ) → result ≡ ChartStatus.Line n
         → IfSome (S.left source.old) (IsFirstOff n) }
 
     // The outside failed.
-    ensures shelf { result ≡ Status.Shelf → Rises (H.faults shelf.old) (H.faults shelf.new) }
-    ensures source { result ≡ Status.Source
+    ensures shelf { result ≡ ChartStatus.Shelf → Rises (H.faults shelf.old) (H.faults shelf.new) }
+    ensures source { result ≡ ChartStatus.Source
         → Rises (S.faults source.old) (S.faults source.new) }
-    ensures sink { result ≡ Status.Sink → Rises (K.faults sink.old) (K.faults sink.new) }
+    ensures sink { result ≡ ChartStatus.Sink → Rises (K.faults sink.old) (K.faults sink.new) }
 
     // Nothing is written but a whole picture, or a part of it where the sink failed.
     ensures silent { IsFalse (may_have_written result) → sink.new ≡ sink.old }
 
     // The bars of the picture are those of the log's schedule.
-    ensures done { result ≡ Status.Done
+    ensures done { result ≡ ChartStatus.Done
         → IsCharted (map string_bytes words.now) (H.told shelf.old)
         (S.left source.old) (K.taken sink.old) (K.taken sink.new) }
 {
     let request = match read_words(alloc, words) {
         Ok(request) => request,
-        Err(WordsFault::Memory) => return Status::Memory,
-        Err(WordsFault::Usage) => return Status::Usage,
+        Err(ChartWordsFault::Memory) => return ChartStatus::Memory,
+        Err(ChartWordsFault::Usage) => return ChartStatus::Usage,
     };
     match find_machine(alloc, shelf, request.machine) {
         Ok(machine) => show(

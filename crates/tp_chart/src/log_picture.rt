@@ -8,9 +8,9 @@ ghost use Rattle.tp_chart.specs.Runs.{Shows, is_of_input, is_of_show, may_have_w
 ghost use Rattle.tp_chart.specs.Scenes.{sight_of};
 
 use crate::bars::bars_of;
+use crate::chart_status::{ChartStatus, LongText};
 use crate::picture::draw;
 use crate::scene::scene_of;
-use crate::status::{Long, Status};
 use std::alloc::Global;
 use tp_base::{Memory, Tick};
 use tp_log::{Item, LogFault, read_log};
@@ -21,28 +21,28 @@ use tp_outside::{ReadError, Sink, Source, read_all, write_all};
 const LOG_BYTES: usize = 1_073_741_824;
 
 /// Reads the log of the source. An `Err` is the status that the run ends with.
-fn read_items<S: Source>(alloc: Global, source: &mut S) -> Result<Vec<Item>, Status>
+fn read_items<S: Source>(alloc: Global, source: &mut S) -> Result<Vec<Item>, ChartStatus>
     ensures log { IfOk result (λ log. IsLog log.items) }
     ensures read { IfOk result (λ log. IfSome (S.left source.old)
         (λ bytes. bytes ≡ log_text log.items)) }
-    ensures too_long { IfErr result (λ s. s ≡ Status.TooLong Long.Log
+    ensures too_long { IfErr result (λ s. s ≡ ChartStatus.TooLong LongText.Log
         → IfSome (S.left source.old) (λ bytes. most_log < length bytes)) }
-    ensures line { IfErr result (λ s. (n : ℕ) → s ≡ Status.Line n
+    ensures line { IfErr result (λ s. (n : ℕ) → s ≡ ChartStatus.Line n
         → IfSome (S.left source.old) (IsFirstOff n)) }
-    ensures source { IfErr result (λ s. s ≡ Status.Source
+    ensures source { IfErr result (λ s. s ≡ ChartStatus.Source
         → Rises (S.faults source.old) (S.faults source.new)) }
     ensures which { IfErr result (λ s. IsTrue (is_of_input s)) }
 {
     let text = match read_all(alloc, source, LOG_BYTES) {
         Ok(text) => text,
-        Err(ReadError::Memory) => return Err(Status::Memory),
-        Err(ReadError::Failed) => return Err(Status::Source),
-        Err(ReadError::TooLong) => return Err(Status::TooLong(Long::Log)),
+        Err(ReadError::Memory) => return Err(ChartStatus::Memory),
+        Err(ReadError::Failed) => return Err(ChartStatus::Source),
+        Err(ReadError::TooLong) => return Err(ChartStatus::TooLong(LongText::Log)),
     };
     match read_log(alloc, &text) {
         Ok(items) => Ok(items),
-        Err(LogFault::Memory) => Err(Status::Memory),
-        Err(LogFault::Bad(n)) => Err(Status::Line(n)),
+        Err(LogFault::Memory) => Err(ChartStatus::Memory),
+        Err(LogFault::Bad(n)) => Err(ChartStatus::Line(n)),
     }
 }
 
@@ -70,16 +70,16 @@ pub(crate) fn show<S: Source, K: Sink>(
     until: Option<Tick>,
     source: &mut S,
     sink: &mut K,
-) -> Status
-    ensures done { result ≡ Status.Done → Shows machine.now by_copies until
+) -> ChartStatus
+    ensures done { result ≡ ChartStatus.Done → Shows machine.now by_copies until
         (S.left source.old) (K.taken sink.old) (K.taken sink.new) }
-    ensures too_long { result ≡ Status.TooLong Long.Log
+    ensures too_long { result ≡ ChartStatus.TooLong LongText.Log
         → IfSome (S.left source.old) (λ bytes. most_log < length bytes) }
-    ensures line { (n : ℕ) → result ≡ Status.Line n
+    ensures line { (n : ℕ) → result ≡ ChartStatus.Line n
         → IfSome (S.left source.old) (IsFirstOff n) }
-    ensures source { result ≡ Status.Source
+    ensures source { result ≡ ChartStatus.Source
         → Rises (S.faults source.old) (S.faults source.new) }
-    ensures sink { result ≡ Status.Sink → Rises (K.faults sink.old) (K.faults sink.new) }
+    ensures sink { result ≡ ChartStatus.Sink → Rises (K.faults sink.old) (K.faults sink.new) }
     ensures silent { IsFalse (may_have_written result) → sink.new ≡ sink.old }
     ensures which { IsTrue (is_of_show result) }
 {
@@ -88,10 +88,10 @@ pub(crate) fn show<S: Source, K: Sink>(
         Err(status) => return status,
     };
     let Ok(text) = picture_of(alloc, machine, by_copies, until, &items) else {
-        return Status::Memory;
+        return ChartStatus::Memory;
     };
     match write_all(sink, &text) {
-        Ok(()) => Status::Done,
-        Err(_) => Status::Sink,
+        Ok(()) => ChartStatus::Done,
+        Err(_) => ChartStatus::Sink,
     }
 }

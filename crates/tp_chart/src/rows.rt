@@ -1,6 +1,6 @@
 //! The rows of a picture: their labels, the axis above them, and the times in which modules were out.
 use crate::frame::{AxisFrame, HEAD, ROW};
-use crate::outage::Outage;
+use crate::out_span::OutSpan;
 use crate::scene::Scene;
 use crate::text_pieces::{put_copy, put_name};
 use std::alloc::AllocError;
@@ -95,7 +95,7 @@ fn put_outage(
     text: &mut String,
     frame: &AxisFrame,
     machine: &Machine,
-    outage: &Outage,
+    outage: &OutSpan,
 ) -> Result<(), AllocError> {
     let end = match outage.end {
         Some(end) => i64::from(end).min(frame.last),

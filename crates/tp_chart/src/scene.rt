@@ -5,7 +5,7 @@ ghost use Rattle.tp_chart.specs.Scenes.{changed, comes_back, goes_out, is_past, 
 ghost use Rattle.tp_schedule.specs.declared.records.Record.TheVariants.{Plan};
 
 use crate::course::{Course, is_same_copy};
-use crate::outage::{Outage, all_ended, is_out};
+use crate::out_span::{OutSpan, all_ended, is_out};
 use std::alloc::Global;
 use std::marker::Model;
 use tp_base::{Items, Memory, Name, Tick};
@@ -22,7 +22,7 @@ const LAST_TICK: Tick = 1_000_000_000;
 pub struct Scene {
     moment: Tick,
     courses: Vec<Course>,
-    outages: Vec<Outage>,
+    outages: Vec<OutSpan>,
 }
 
 // Clauses see the lists.
@@ -127,7 +127,7 @@ impl Scene {
         &self.courses
     }
 
-    pub fn outages(&self) -> &[Outage]
+    pub fn outages(&self) -> &[OutSpan]
         ensures { result.now ≡ self.now.outages }
     {
         &self.outages
@@ -139,7 +139,7 @@ impl Scene {
         if let Some(number) = machine.modules.find(name)
             && !is_out(number, &self.outages)
         {
-            self.outages.push(Outage {
+            self.outages.push(OutSpan {
                 number,
                 begin: self.moment,
                 end: None,

@@ -11,7 +11,7 @@ use tp_words::read_number;
 /// What the words ask for: the picture of a schedule on the machine of this name, at the end of the log or as it stood at the
 /// moment, with a row for each resource or for each copy.
 #[derive(Clone, Copy, Debug, PartialEq, Eq)]
-pub struct Request<'a> {
+pub struct ChartRequest<'a> {
     pub machine: &'a str,
     pub by_copies: bool,
     pub until: Option<Tick>,
@@ -19,7 +19,7 @@ pub struct Request<'a> {
 
 /// Why the words ask for nothing.
 #[derive(Clone, Copy, Debug, PartialEq, Eq)]
-pub enum WordsFault {
+pub enum ChartWordsFault {
     Memory,
     Usage,
 }
@@ -43,21 +43,21 @@ fn command<'a>(alloc: Global) -> Result<Command<'a>, AllocError>
         .arg(at)
 }
 
-fn match_words<'a>(alloc: Global, words: &'a [String]) -> Result<ArgMatches<'a>, WordsFault>
+fn match_words<'a>(alloc: Global, words: &'a [String]) -> Result<ArgMatches<'a>, ChartWordsFault>
     ensures taken { IfOk result (λ _. fault_of chart (map string_bytes words.entry.now) ≡ []) }
     ensures rows { IfOk result (λ m.
         rows_of (found_of m) ≡ matches_of chart (map string_bytes words.entry.now)) }
     ensures usage { IfErr result (λ e.
-        e ≡ WordsFault.Usage → ¬ (fault_of chart (map string_bytes words.entry.now) ≡ [])) }
+        e ≡ ChartWordsFault.Usage → ¬ (fault_of chart (map string_bytes words.entry.now) ≡ [])) }
 {
     let Ok(command) = command(alloc) else {
-        return Err(WordsFault::Memory);
+        return Err(ChartWordsFault::Memory);
     };
     match command.try_get_matches_from(words) {
         Ok(matches) => Ok(matches),
         Err(error) => match error.kind() {
-            clap::error::ErrorKind::OutOfMemory => Err(WordsFault::Memory),
-            _ => Err(WordsFault::Usage),
+            clap::error::ErrorKind::OutOfMemory => Err(ChartWordsFault::Memory),
+            _ => Err(ChartWordsFault::Usage),
         },
     }
 }
@@ -96,7 +96,7 @@ fn moment_of(texts: &[&str]) -> Option<Option<Tick>>
 }
 
 /// What is asked for by the words that are no options, with so many flags and these moments.
-fn ask<'a>(places: &[&'a str], sheets: usize, moments: &[&str]) -> Option<Request<'a>>
+fn ask<'a>(places: &[&'a str], sheets: usize, moments: &[&str]) -> Option<ChartRequest<'a>>
     ensures { option_map seen result ≡ asked_at (shown places.now) sheets (shown moments.now) }
 {
     let [machine] = places else {
@@ -106,7 +106,7 @@ fn ask<'a>(places: &[&'a str], sheets: usize, moments: &[&str]) -> Option<Reques
         return None;
     }
     let until = moment_of(moments)?;
-    Some(Request {
+    Some(ChartRequest {
         machine,
         by_copies: sheets == 1,
         until,
@@ -114,7 +114,7 @@ fn ask<'a>(places: &[&'a str], sheets: usize, moments: &[&str]) -> Option<Reques
 }
 
 /// What is asked for by the words as the library tells them.
-fn asked<'a>(matches: &ArgMatches<'a>) -> Option<Request<'a>>
+fn asked<'a>(matches: &ArgMatches<'a>) -> Option<ChartRequest<'a>>
     ensures { option_map seen result ≡ asked_in (rows_of (found_of matches.now)) }
 {
     let places = values(matches, "words")?;
@@ -126,11 +126,14 @@ fn asked<'a>(matches: &ArgMatches<'a>) -> Option<Request<'a>>
 }
 
 /// What the words ask for, the program's own name left out. `Usage` comes exactly where they are not of the form.
-pub(crate) fn read_words<'a>(alloc: Global, words: &'a [String]) -> Result<Request<'a>, WordsFault>
+pub(crate) fn read_words<'a>(
+    alloc: Global,
+    words: &'a [String],
+) -> Result<ChartRequest<'a>, ChartWordsFault>
     ensures ok { IfOk result (λ r. chart_asked
         (map string_bytes words.entry.now) ≡ Some (seen r)) }
     ensures usage { IfErr result (λ e.
-        e ≡ WordsFault.Usage → chart_asked (map string_bytes words.entry.now) ≡ None) }
+        e ≡ ChartWordsFault.Usage → chart_asked (map string_bytes words.entry.now) ≡ None) }
 {
     let matches = match match_words(alloc, words) {
         Ok(matches) => matches,
@@ -138,6 +141,6 @@ pub(crate) fn read_words<'a>(alloc: Global, words: &'a [String]) -> Result<Reque
     };
     match asked(&matches) {
         Some(request) => Ok(request),
-        None => Err(WordsFault::Usage),
+        None => Err(ChartWordsFault::Usage),
     }
 }

@@ -10,8 +10,8 @@ use Rattle.tp_words.proofs.SpelledWords.{Tells, name_spells, number_spells}
 use Rattle.tp_words.proofs.Texts.{AllVisible, name_visible, number_visible}
 use Rattle.tp_schedule.specs.declared.records.Cause.{Cause}
 use Rattle.tp_schedule.specs.declared.records.Cause.TheVariants.{Syntax, Tray, Media, Named, Waiting, Back, End, «Module», Out, NotOn, Feeder, Endless, Stock}
-use Rattle.tp_log.specs.declared.reason.Reason.{Reason}
-use Rattle.tp_log.specs.declared.reason.Reason.TheVariants as reasons
+use Rattle.tp_log.specs.declared.cause_word.CauseWord.{CauseWord}
+use Rattle.tp_log.specs.declared.cause_word.CauseWord.TheVariants as reasons
 use Rattle.tp_log.specs.Headings.{reason_text, reason_of, reasons as all_reasons}
 use Rattle.tp_log.specs.Records.{cause_words}
 use Rattle.tp_log.specs.Grammar.{IsCause}
@@ -26,7 +26,7 @@ find_passes p (y ∷ ys) x e =
       | inr h ↦ find_passes p ys x (rw h at e)
     ]
 
-reason_takes : (word : List ℕ) (r : Reason) → reason_of word ≡ Some r → word ≡ reason_text r
+reason_takes : (word : List ℕ) (r : CauseWord) → reason_of word ≡ Some r → word ≡ reason_text r
 reason_takes word r e = sym ((bytes_eq-Decides (reason_text r) word).0 (find_passes (λ r. bytes_eq (reason_text r) word) all_reasons r e))
 
 bare_made : (cause : Cause) (head : List ℕ) → cause_words cause ≡ head ∷ [] → IsCause cause → (words : List (List ℕ)) (c : Cause) → bare_of cause words ≡ Some c → Tells cause_words IsCause (head ∷ words) c
@@ -34,7 +34,7 @@ unfolding bare_of
 bare_made cause head same is [] c e = subst (λ c. Tells cause_words IsCause (head ∷ []) c) (same_Some cause c e) (sym same, is)
 bare_made cause head same is (w ∷ ws) c e = absurd cc
 
-after_takes : (r : Reason) (words : List (List ℕ)) (c : Cause) → cause_after r words ≡ Some c → Tells cause_words IsCause (reason_text r ∷ words) c
+after_takes : (r : CauseWord) (words : List (List ℕ)) (c : Cause) → cause_after r words ≡ Some c → Tells cause_words IsCause (reason_text r ∷ words) c
 unfolding cause_after
 after_takes reasons.Syntax words c e = bare_made Syntax (reason_text reasons.Syntax) refl tt words c e
 after_takes reasons.Tray words c e = one_made cause_words IsCause name_spells (λ n. Tray n) (reason_text reasons.Tray) (λ n. refl) (λ n h. h) words c e

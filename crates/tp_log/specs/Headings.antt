@@ -3,8 +3,8 @@ use Rattle.std.specs.Prelude.{ℕ, List, [], ◌∷◌, Option, codes, find}
 use Rattle.std.specs.Str.{bytes_eq}
 use Rattle.tp_log.specs.declared.heading.Heading.{Heading}
 use Rattle.tp_log.specs.declared.heading.Heading.TheVariants.{Plan, Move, Never, Budget, FullUp, Release, Done, Lost, Recall, Withdraw, Cut, Purge, Again, Stuck, Broken, Drop, Refused}
-use Rattle.tp_log.specs.declared.reason.Reason.{Reason}
-use Rattle.tp_log.specs.declared.reason.Reason.TheVariants.{Syntax, Tray, Media, Named, Waiting, Back, End, «Module», Out, NotOn, Feeder, Endless, Stock}
+use Rattle.tp_log.specs.declared.cause_word.CauseWord.{CauseWord}
+use Rattle.tp_log.specs.declared.cause_word.CauseWord.TheVariants.{Syntax, Tray, Media, Named, Waiting, Back, End, «Module», Out, NotOn, Feeder, Endless, Stock}
 
 abbrev pub heading_text : Heading → List ℕ
 heading_text Plan = codes "plan"
@@ -32,7 +32,7 @@ headings = Plan ∷ Move ∷ Never ∷ Budget ∷ FullUp ∷ Release ∷ Done �
 abbrev pub heading_of : List ℕ → Option Heading
 heading_of word = find (λ heading. bytes_eq (heading_text heading) word) headings
 
-abbrev pub reason_text : Reason → List ℕ
+abbrev pub reason_text : CauseWord → List ℕ
 reason_text Syntax = codes "syntax"
 reason_text Tray = codes "tray"
 reason_text Media = codes "media"
@@ -47,9 +47,9 @@ reason_text Feeder = codes "feeder"
 reason_text Endless = codes "endless"
 reason_text Stock = codes "stock"
 
-abbrev pub reasons : List Reason
+abbrev pub reasons : List CauseWord
 reasons = Syntax ∷ Tray ∷ Media ∷ Named ∷ Waiting ∷ Back ∷ End ∷ «Module» ∷ Out ∷ NotOn ∷ Feeder ∷ Endless ∷ Stock ∷ []
 
 -- the reason with this text
-abbrev pub reason_of : List ℕ → Option Reason
+abbrev pub reason_of : List ℕ → Option CauseWord
 reason_of word = find (λ reason. bytes_eq (reason_text reason) word) reasons

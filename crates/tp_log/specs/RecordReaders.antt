@@ -11,8 +11,8 @@ use Rattle.tp_schedule.specs.declared.records.Record.TheVariants.{Plan, Move, Ne
 use Rattle.tp_bounds.specs.Sheets.{sheet_of}
 use Rattle.tp_log.specs.declared.heading.Heading.{Heading}
 use Rattle.tp_log.specs.declared.heading.Heading.TheVariants as headings
-use Rattle.tp_log.specs.declared.reason.Reason.{Reason}
-use Rattle.tp_log.specs.declared.reason.Reason.TheVariants as reasons
+use Rattle.tp_log.specs.declared.cause_word.CauseWord.{CauseWord}
+use Rattle.tp_log.specs.declared.cause_word.CauseWord.TheVariants as reasons
 use Rattle.tp_log.specs.Headings.{heading_of, reason_of}
 
 -- ---- words
@@ -74,7 +74,7 @@ unfoldable pub bare_of : Cause → List (List ℕ) → Option Cause
 bare_of cause [] = Some cause
 bare_of cause _ = None
 
-unfoldable pub cause_after : Reason → List (List ℕ) → Option Cause
+unfoldable pub cause_after : CauseWord → List (List ℕ) → Option Cause
 cause_after reasons.Syntax words = bare_of causes.Syntax words
 cause_after reasons.Tray words = option_map (λ n. causes.Tray n) (one_of name_of words)
 cause_after reasons.Media words = option_map (λ n. causes.Media n) (one_of name_of words)

@@ -5,8 +5,8 @@ ghost use Rattle.tp_words.specs.Parts.{shown};
 ghost use Rattle.tp_log.specs.Records.{cause_words};
 ghost use Rattle.tp_log.specs.RecordReaders.{bare_of, cause_after, cause_of};
 
+use crate::cause_word::CauseWord;
 use crate::fields::{only_name, only_number};
-use crate::reason::Reason;
 use tp_base::{Memory, Name};
 use tp_schedule::Cause;
 use tp_words::{put_number_word, put_word};
@@ -20,23 +20,23 @@ fn bare(cause: Cause, words: &[&[u8]]) -> Option<Cause>
 }
 
 #[tactic(auto, unfolding(crate::specs::RecordReaders::cause_after))]
-fn read_after(reason: Reason, words: &[&[u8]]) -> Option<Cause>
+fn read_after(reason: CauseWord, words: &[&[u8]]) -> Option<Cause>
     ensures { result ≡ cause_after reason (shown words.now) }
 {
     match reason {
-        Reason::Syntax => bare(Cause::Syntax, words),
-        Reason::Tray => only_name(words).map(Cause::Tray),
-        Reason::Media => only_name(words).map(Cause::Media),
-        Reason::Named => only_name(words).map(Cause::Named),
-        Reason::Waiting => bare(Cause::Waiting, words),
-        Reason::Back => only_number(words).map(Cause::Back),
-        Reason::End => bare(Cause::End, words),
-        Reason::Module => only_name(words).map(Cause::Module),
-        Reason::Out => only_name(words).map(Cause::Out),
-        Reason::NotOn => only_name(words).map(Cause::NotOn),
-        Reason::Feeder => only_name(words).map(Cause::Feeder),
-        Reason::Endless => only_name(words).map(Cause::Endless),
-        Reason::Stock => only_name(words).map(Cause::Stock),
+        CauseWord::Syntax => bare(Cause::Syntax, words),
+        CauseWord::Tray => only_name(words).map(Cause::Tray),
+        CauseWord::Media => only_name(words).map(Cause::Media),
+        CauseWord::Named => only_name(words).map(Cause::Named),
+        CauseWord::Waiting => bare(Cause::Waiting, words),
+        CauseWord::Back => only_number(words).map(Cause::Back),
+        CauseWord::End => bare(Cause::End, words),
+        CauseWord::Module => only_name(words).map(Cause::Module),
+        CauseWord::Out => only_name(words).map(Cause::Out),
+        CauseWord::NotOn => only_name(words).map(Cause::NotOn),
+        CauseWord::Feeder => only_name(words).map(Cause::Feeder),
+        CauseWord::Endless => only_name(words).map(Cause::Endless),
+        CauseWord::Stock => only_name(words).map(Cause::Stock),
     }
 }
 
@@ -47,7 +47,7 @@ pub fn read_cause(words: &[&[u8]]) -> Option<Cause>
     let [first, others @ ..] = words else {
         return None;
     };
-    match Reason::read(first) {
+    match CauseWord::read(first) {
         None => None,
         Some(reason) => read_after(reason, others),
     }

@@ -1,6 +1,7 @@
 //! The lines of a log, printed and read, and whole logs.
 #![tactic(auto)]
 
+mod cause_word;
 mod causes;
 mod fault;
 mod fields;
@@ -12,7 +13,6 @@ mod line;
 mod log_line;
 mod log_reader;
 mod plans;
-mod reason;
 mod record_laws;
 mod record_printer;
 mod record_reader;

@@ -3,7 +3,7 @@ use Rattle.std.proofs.Common.{◌≡◌, List, Option, Some, None, sym, subst}
 use Rattle.std.specs.Prelude.{IfSome, IsSome, MatchOption}
 use Rattle.tp_log_check.specs.declared.pending.Pending.{Pending}
 use Rattle.tp_log.specs.declared.item.Item.{Item}
-use Rattle.tp_log_planner.specs.declared.stop.Stop.{Stop}
+use Rattle.tp_log_planner.specs.declared.failure.WrongItem.{WrongItem}
 use Rattle.tp_log_check.specs.CheckerState.{CheckerValue, underway}
 use Rattle.tp_log_check.specs.Causes.{AreItemsOf, HasCause, HasReasonUnder, IsDueOrStops, flaw_at}
 use Rattle.tp_log_check.specs.declared.flaw.Flaw.{Flaw}
@@ -18,7 +18,7 @@ pub found-some : {A : Type 0} (P : Type 0) (Q : A → Type 0) (o : Option A) →
 found-some P Q None some to = absurd cc
 found-some P Q (Some a) some to = to a
 
-module _ (c : CheckerValue) (p : Pending) (is : c.under ≡ Some (underway p)) (items : List Item) (are : AreItemsOf (underway p) items) (stop : Stop) where
+module _ (c : CheckerValue) (p : Pending) (is : c.under ≡ Some (underway p)) (items : List Item) (are : AreItemsOf (underway p) items) (stop : WrongItem) where
   reason-under : (flaw : Flaw) → flaw ≡ flaw_at p.line items stop → IsDueOrStops c.machine c.state p.event items stop → HasReasonUnder c.machine c.state c.under flaw
   reason-under flaw told why = subst (λ u. HasReasonUnder c.machine c.state u flaw) (sym is) (record { items = items; are = are; stop = stop; why = why; told = told })
 

@@ -24,7 +24,7 @@ use Rattle.tp_log.proofs.BoundLines.{one_log_line}
 use Rattle.tp_log.proofs.GatherFacts.{closed-lines, closed_log}
 use Rattle.tp_log.proofs.Items.{in_order, log_known, node_lines, row_lines}
 use Rattle.tp_machine.specs.declared.machine.Machine.{Machine}
-use Rattle.tp_log_planner.specs.declared.stop.Stop.{Stop}
+use Rattle.tp_log_planner.specs.declared.failure.WrongItem.{WrongItem}
 use Rattle.tp_event_rules.specs.States.{SessionState}
 use Rattle.tp_log_check.specs.Causes.{flaw_at}
 use Rattle.tp_log_check.specs.CheckerState.{CheckerValue, HasRead, HasTaken, Underway, items_of, underway}
@@ -146,7 +146,7 @@ module _ (machine : Machine) (state : SessionState) (events lines : ℕ) (counts
 
   -- and the flaw is told on the line of the item
   pub told-ended : (p q r : Pending) (told : List LogLine) → HasTaken (value (Some (underway p))) told → entries.items_of q ≡ closed (entries.items_of p) p.tree → q.line ≡ p.line → IsSame q r
-      → length told + 1 < 2 ^ 64 → (found : Flaw) (stop : Stop) → (r.line + 1 + heights r.items.items < 2 ^ 64 → found ≡ flaw_at r.line r.items.items stop) → found ≡ flaw_at p.line q.items.items stop
+      → length told + 1 < 2 ^ 64 → (found : Flaw) (stop : WrongItem) → (r.line + 1 + heights r.items.items < 2 ^ 64 → found ≡ flaw_at r.line r.items.items stop) → found ≡ flaw_at p.line q.items.items stop
   told-ended p q r told h ended first same fits found stop is =
       let all : length told + 1 ≡ r.line + 1 + heights r.items.items = counted-ended p q told ended h ∙ (λ k. sym (same.line ∙ first) k + 1 + heights (sym same.items k)) in
       is (subst (λ n. n < 2 ^ 64) all fits) ∙ (λ k. flaw_at ((same.line ∙ first) k) (same.items k) stop)

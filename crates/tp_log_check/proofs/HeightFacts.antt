@@ -5,8 +5,8 @@ use Rattle.std.proofs.lemmas.List.{length-append, take_min}
 use Rattle.tp_log_check.specs.Heights.{height, heights}
 use Rattle.tp_log.specs.GatheredItems.{item_lines, log_lines}
 use Rattle.tp_log.specs.declared.item.Item.{Item}
-use Rattle.tp_log_planner.specs.declared.stop.Reason.{Reason}
-use Rattle.tp_log_planner.specs.declared.stop.Reason.TheVariants as reason
+use Rattle.tp_log_planner.specs.declared.failure.Reason.{Reason}
+use Rattle.tp_log_planner.specs.declared.failure.Reason.TheVariants as reason
 use Rattle.tp_log_check.specs.Causes.{flaw_on}
 use Rattle.tp_log_check.specs.FlawLines.{LiesBehind}
 use Rattle.tp_log_check.specs.declared.flaw.Flaw.TheVariants.{Memory}

@@ -12,8 +12,8 @@ use Rattle.tp_log_check.proofs.FlawPlaces.{at-last}
 use Rattle.tp_log_check.specs.declared.flaw.Flaw.{Flaw}
 use Rattle.tp_log_check.specs.declared.flaw.Flaw.TheVariants.{Memory as WantsMemory}
 use Rattle.tp_machine.specs.declared.machine.Machine.{Machine}
-use Rattle.tp_log_check.specs.declared.cause.Cause.{Cause}
-use Rattle.tp_log_check.specs.declared.cause.Cause.TheVariants.{Memory, Flaw as Flawed}
+use Rattle.tp_log_check.specs.declared.rejection.Rejection.{Rejection}
+use Rattle.tp_log_check.specs.declared.rejection.Rejection.TheVariants.{Memory, Flaw as Flawed}
 use Rattle.tp_log_check.specs.Ends.{EndsFor, IsAcceptedText, IsTakenBy, StopsFor, StopsFrom}
 use Rattle.tp_log_check.specs.Sizes.{KeepsSizes}
 use Rattle.tp_stream.specs.Takes.{IsReadFrom, ends_whole}
@@ -47,7 +47,7 @@ module _ (machine : Machine) (c : CheckerValue) (text : List ℕ) (is : c.machin
     stops = (record { line = []; more = []; next = refl; first = inr (refl, refl); bytes = (let b = sizes.bytes in omega (arith, b)); events = (let e = sizes.events in omega (arith, e)) }, real, record { told = h.told; lines = h.lines; lies = at-last h.told [] flaw lies });
   }
 
-  pub refused-end : (left left' : Option (List ℕ)) (cause : Cause) → IsReadFrom left text left' → EndsFor c cause → StopsFrom machine left left' cause
+  pub refused-end : (left left' : Option (List ℕ)) (cause : Rejection) → IsReadFrom left text left' → EndsFor c cause → StopsFrom machine left left' cause
   refused-end left left' Memory read ends = tt
   refused-end left left' (Flawed flaw) read ends = (text, read, (let told = ends.1 h.told h.read in refused-at-end flaw ends.0 told.0 told.1))
   refused-end left left' other read ends = absurd ends

@@ -7,8 +7,8 @@ use Rattle.tp_stream.specs.Takes.{IsReadFrom, Place, Stops, StopsBefore, Takes, 
 use Rattle.tp_stream.specs.declared.stop.Stop.{Stop}
 use Rattle.tp_stream.specs.declared.stop.Stop.TheVariants as stop
 use Rattle.tp_words.specs.Texts.{lines_of}
-use Rattle.tp_log_check.specs.declared.cause.Cause.{Cause}
-use Rattle.tp_log_check.specs.declared.cause.Cause.TheVariants.{Memory, Source, Line, Log, Flaw}
+use Rattle.tp_log_check.specs.declared.rejection.Rejection.{Rejection}
+use Rattle.tp_log_check.specs.declared.rejection.Rejection.TheVariants.{Memory, Source, Line, Log, Flaw}
 use Rattle.tp_log_check.specs.Ends.{IsCaused, StopsAt, StopsFor, StopsFrom}
 use Rattle.tp_log_check.specs.Sizes.{begins_event, events_in, line_bytes, most_events, most_lines}
 use Rattle.tp_log_check.specs.TakenLines.{Answers, LogState, RefusesLine}
@@ -20,11 +20,11 @@ abbrev pub NoRefusal : LogState → List ℕ → Type 0
 NoRefusal s line = ⊥
 
 -- the cause that a stop tells
-abbrev pub AsCause : Stop → LogState → (Cause → Type 0) → Type 0
+abbrev pub AsCause : Stop → LogState → (Rejection → Type 0) → Type 0
 AsCause stop.Memory s P = Unit {0}
 AsCause stop.Refused s P = ⊥
 AsCause stop.Source s P = P Source
-AsCause stop.Sink s P = (cause : Cause) × (s.found ≡ Some cause) × P cause
+AsCause stop.Sink s P = (cause : Rejection) × (s.found ≡ Some cause) × P cause
 AsCause (stop.Line n) s P = P (Line n)
 AsCause stop.Lines s P = ⊥
 
@@ -36,7 +36,7 @@ one-more line events few past = go (begins_event line) refl past
     go false e past = absurd (omega (arith, few, past))
 
 -- why a line is refused, by what stands before it
-why-refused : (machine : Machine) (at : LogState) (done rest line more : List ℕ) (cause : Cause) → HasTakenText machine at done → rest ≡ line ++ more → lines_of rest ≡ line ∷ lines_of more → RefusesLine at line cause
+why-refused : (machine : Machine) (at : LogState) (done rest line more : List ℕ) (cause : Rejection) → HasTakenText machine at done → rest ≡ line ++ more → lines_of rest ≡ line ∷ lines_of more → RefusesLine at line cause
     → StopsAt done rest cause
 why-refused machine at done rest line more Memory h next first w = absurd w
 why-refused machine at done rest line more Source h next first w = absurd w
@@ -56,7 +56,7 @@ why-refused machine at done rest line more (Flaw f) h next first w =
     (record { line = line; more = more; next = next; first = inl first; bytes = omega (arith, bytes, few_bytes); events = omega (arith, events, few_events) }, w.1, record { told = h.by.told; lines = h.by.lines; lies = (w.2 h.by.told h.by.read).0 })
 
 -- and a flaw for what it tells
-why-caused : (machine : Machine) (at : LogState) (done line : List ℕ) (cause : Cause) → HasTakenText machine at done → RefusesLine at line cause → IsCaused at.checker cause
+why-caused : (machine : Machine) (at : LogState) (done line : List ℕ) (cause : Rejection) → HasTakenText machine at done → RefusesLine at line cause → IsCaused at.checker cause
 why-caused machine at done line (Flaw f) h w = (w.2 h.by.told h.by.read).1
 why-caused machine at done line Memory h w = tt
 why-caused machine at done line Source h w = tt
@@ -71,7 +71,7 @@ module _ (s s' : LogState) (text : List ℕ) (start : IsAtStart s) (rest : List 
   done-so-far : takes.text ≡ [] → HasTakenText s.checker.machine at.state takes.done
   done-so-far none = taken-text s at.state takes.done start (feeds-all (lines_of takes.done) takes.text s at.state takes.answered none)
 
-  stops-for : (cause : Cause) → HasTakenText s.checker.machine at.state takes.done → StopsAt takes.done rest cause → IsCaused at.state.checker cause → StopsFor s.checker.machine text cause
+  stops-for : (cause : Rejection) → HasTakenText s.checker.machine at.state takes.done → StopsAt takes.done rest cause → IsCaused at.state.checker cause → StopsFor s.checker.machine text cause
   stops-for cause h w caused =
       let bytes = h.bytes in
       let events = h.events in
@@ -124,6 +124,6 @@ pub stops-so : (s s' : LogState) (text : List ℕ) (why : Stop) → IsAtStart s 
 stops-so s s' text why start h = stopped s s' text start h.rest h.at h.takes why h.stops
 
 -- a cause that is known is told of what the source gave
-pub stops-from : (machine : Machine) (left left' : Option (List ℕ)) (cause : Cause) (text : List ℕ) → IsReadFrom left text left' → StopsFor machine text cause → StopsFrom machine left left' cause
+pub stops-from : (machine : Machine) (left left' : Option (List ℕ)) (cause : Rejection) (text : List ℕ) → IsReadFrom left text left' → StopsFor machine text cause → StopsFrom machine left left' cause
 stops-from machine left left' Memory text read stops = tt
 stops-from machine left left' cause text read stops = (text, read, stops)

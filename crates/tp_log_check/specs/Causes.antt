@@ -11,9 +11,9 @@ use Rattle.tp_run_laws.specs.Proved.{records_in}
 use Rattle.tp_schedule.specs.declared.records.Record.{Record}
 use Rattle.tp_script.specs.declared.event.Event.{Event as AnEvent}
 use Rattle.tp_log_planner.specs.ToldAnswers.{ToldValue}
-use Rattle.tp_log_planner.specs.declared.stop.Reason.{Reason}
-use Rattle.tp_log_planner.specs.declared.stop.Reason.TheVariants as reason
-use Rattle.tp_log_planner.specs.declared.stop.Stop.{Stop}
+use Rattle.tp_log_planner.specs.declared.failure.Reason.{Reason}
+use Rattle.tp_log_planner.specs.declared.failure.Reason.TheVariants as reason
+use Rattle.tp_log_planner.specs.declared.failure.WrongItem.{WrongItem}
 use Rattle.tp_bound_laws.specs.declared.claim.TreeFlaw.{TreeFlaw}
 use Rattle.tp_bound_laws.specs.declared.claim.TreeFlaw.TheVariants as tree
 use Rattle.tp_event_rules.specs.States.{SessionState}
@@ -55,7 +55,7 @@ abbrev pub flaw_by : ℕ → List Item → Reason → Flaw
 flaw_by line items reason = flaw_on line (line + lines_to items reason) reason
 
 -- the flaw, on the line of the item, where the event stands on this line and these items behind it
-abbrev pub flaw_at : ℕ → List Item → Stop → Flaw
+abbrev pub flaw_at : ℕ → List Item → WrongItem → Flaw
 flaw_at line items stop = flaw_by (line + 1 + heights (take stop.item items)) (drop stop.item items) stop.reason
 
 -- ---- the event's turn
@@ -82,7 +82,7 @@ pub record StopsOff (machine : Machine) (s : SessionState) (event : AnEvent) (it
   pub off : PartsAt notes (items_before last) item
 
 -- it stops behind items that tell its records, and this is why: it holds of the step at which the turn stops
-pub record StopsFor (machine : Machine) (s : SessionState) (event : AnEvent) (items : List Item) (stop : Stop) : Type 0 where
+pub record StopsFor (machine : Machine) (s : SessionState) (event : AnEvent) (items : List Item) (stop : WrongItem) : Type 0 where
   pub planner : ToldValue
   pub items_are : planner.items ≡ items
   pub begins : planner.at ≡ 0
@@ -97,7 +97,7 @@ abbrev pub IsDueFor : Machine → SessionState → AnEvent → List Item → ℕ
 IsDueFor machine s event items item = EndsOff machine s event items item ⊎ StopsOff machine s event items item
 
 -- or the turn stops for this
-abbrev pub IsDueOrStops : Machine → SessionState → AnEvent → List Item → Stop → Type 0
+abbrev pub IsDueOrStops : Machine → SessionState → AnEvent → List Item → WrongItem → Type 0
 IsDueOrStops machine s event items stop = ((stop.reason ≡ reason.Due) × IsDueFor machine s event items stop.item) ⊎ StopsFor machine s event items stop
 
 -- ---- flaws
@@ -110,7 +110,7 @@ AreItemsOf u items = (items ≡ u.items) ⊎ (Event u.event ∷ items ≡ closed
 pub record HasReason (machine : Machine) (s : SessionState) (u : Underway) (flaw : Flaw) : Type 0 where
   pub items : List Item
   pub are : AreItemsOf u items
-  pub stop : Stop
+  pub stop : WrongItem
   pub why : IsDueOrStops machine s u.event items stop
   pub told : flaw ≡ flaw_at u.line items stop
 

@@ -14,8 +14,8 @@ use Rattle.tp_machine.specs.declared.machine.Machine.{Machine}
 use Rattle.tp_stream.specs.Takes.{BeginsTooLong, IsReadFrom, ends_whole}
 use Rattle.tp_words.specs.Parts.{lacks}
 use Rattle.tp_words.specs.Texts.{lines_of}
-use Rattle.tp_log_check.specs.declared.cause.Cause.{Cause}
-use Rattle.tp_log_check.specs.declared.cause.Cause.TheVariants.{Memory, Source, Line, Log, Flaw as Flawed}
+use Rattle.tp_log_check.specs.declared.rejection.Rejection.{Rejection}
+use Rattle.tp_log_check.specs.declared.rejection.Rejection.TheVariants.{Memory, Source, Line, Log, Flaw as Flawed}
 use Rattle.tp_log_check.specs.Sizes.{KeepsSizes, begins_event, event_lines, events_in, line_bytes, most_bytes, most_events}
 
 -- nothing was fed yet
@@ -61,7 +61,7 @@ pub record IsToldBehind (done line : List ℕ) (flaw : Flaw) : Type 0 where
   pub lies : LiesAt told line flaw
 
 -- why the lines behind the first ones are not taken
-abbrev pub StopsAt : List ℕ → List ℕ → Cause → Type 0
+abbrev pub StopsAt : List ℕ → List ℕ → Rejection → Type 0
 StopsAt done rest Memory = ⊥
 StopsAt done rest Source = lacks 10 rest ≡ true
 StopsAt done rest (Line n) = BeginsTooLong line_bytes rest × (n ≡ length (lines_of done) + 1)
@@ -69,18 +69,18 @@ StopsAt done rest Log = (most_bytes < length done + length rest) ⊎ ((event_lin
 StopsAt done rest (Flawed flaw) = (refused : IsRefusedAt done rest) × (flaw ≢ WantsMemory) × IsToldBehind done refused.line flaw
 
 -- why the end of a log is not accepted of which the checker took all lines
-abbrev pub EndsFor : CheckerValue → Cause → Type 0
+abbrev pub EndsFor : CheckerValue → Rejection → Type 0
 EndsFor c Memory = Unit {0}
 EndsFor c (Flawed flaw) = (flaw ≢ WantsMemory) × ((told : List LogLine) → HasRead c told → LiesInLast told flaw × HasCause c flaw)
 EndsFor c _ = ⊥
 
 -- a flaw is told for what its rule says of the turn at which the checker stands
-abbrev pub IsCaused : CheckerValue → Cause → Type 0
+abbrev pub IsCaused : CheckerValue → Rejection → Type 0
 IsCaused c (Flawed flaw) = HasCause c flaw
 IsCaused c _ = Unit {0}
 
 -- the first lines of the text were taken, and then it was stopped for this cause
-pub record StopsFor (machine : Machine) (text : List ℕ) (cause : Cause) : Type 0 where
+pub record StopsFor (machine : Machine) (text : List ℕ) (cause : Rejection) : Type 0 where
   pub done : List ℕ
   pub rest : List ℕ
   pub parts : text ≡ done ++ rest
@@ -99,6 +99,6 @@ abbrev pub IsAcceptedFrom : Machine → Option (List ℕ) → Option (List ℕ) 
 IsAcceptedFrom machine left left' counts = (text : List ℕ) × IsReadFrom left text left' × IsAcceptedText machine text counts
 
 -- that memory was wanting says nothing of the log
-abbrev pub StopsFrom : Machine → Option (List ℕ) → Option (List ℕ) → Cause → Type 0
+abbrev pub StopsFrom : Machine → Option (List ℕ) → Option (List ℕ) → Rejection → Type 0
 StopsFrom machine left left' Memory = Unit {0}
 StopsFrom machine left left' cause = (text : List ℕ) × IsReadFrom left text left' × StopsFor machine text cause

@@ -6,15 +6,15 @@ use Rattle.tp_log_check.specs.CheckerState.{CheckerValue, HasRead}
 use Rattle.tp_log_check.specs.Causes.{HasCause}
 use Rattle.tp_log_check.specs.FlawLines.{LiesAt}
 use Rattle.tp_log_check.specs.declared.flaw.Flaw.TheVariants.{Memory as WantsMemory}
-use Rattle.tp_log_check.specs.declared.cause.Cause.{Cause}
-use Rattle.tp_log_check.specs.declared.cause.Cause.TheVariants.{Log, Flaw as Flawed}
+use Rattle.tp_log_check.specs.declared.rejection.Rejection.{Rejection}
+use Rattle.tp_log_check.specs.declared.rejection.Rejection.TheVariants.{Log, Flaw as Flawed}
 use Rattle.tp_log_check.specs.Sizes.{IsPastSizes, events_in, most_bytes, most_events}
 
 -- the checker, the bytes of the lines that it took, and why the last line is refused
 pub record LogState : Type 0 where
   pub checker : CheckerValue
   pub bytes : ℕ
-  pub found : Option Cause
+  pub found : Option Rejection
 
 -- the log keeps its sizes with the line
 pub record KeepsSizesWith (s : LogState) (line : List ℕ) : Type 0 where
@@ -33,7 +33,7 @@ pub record TakesLine (s : LogState) (line : List ℕ) (s' : LogState) : Type 0 w
   pub events : s'.checker.events ≡ s.checker.events + events_in line
 
 -- why it is refused
-abbrev pub RefusesLine : LogState → List ℕ → Cause → Type 0
+abbrev pub RefusesLine : LogState → List ℕ → Rejection → Type 0
 RefusesLine s line Log = IsPastSizes (s.bytes + length line) (s.checker.events + events_in line)
 RefusesLine s line (Flawed flaw) = KeepsSizesWith s line × (flaw ≢ WantsMemory) × ((before : List LogLine) → HasRead s.checker before → LiesAt before line flaw × HasCause s.checker flaw)
 RefusesLine s line _ = ⊥
@@ -41,4 +41,4 @@ RefusesLine s line _ = ⊥
 -- a line without a text is taken, and one with a text is refused for what was found
 abbrev pub Answers : LogState → List ℕ → List ℕ → LogState → Type 0
 Answers s line [] s' = TakesLine s line s'
-Answers s line (byte ∷ text) s' = (cause : Cause) × (s'.found ≡ Some cause) × RefusesLine s line cause
+Answers s line (byte ∷ text) s' = (cause : Rejection) × (s'.found ≡ Some cause) × RefusesLine s line cause

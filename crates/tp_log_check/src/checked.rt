@@ -4,7 +4,7 @@ ghost use Rattle.std.specs.Prelude.{◌≡◌, ◌↔◌, ◌+◌, ◌∷◌, []
 ghost use Rattle.tp_log_check.specs.Sizes.{IsPastSizes, begins_event, events_in};
 ghost use Rattle.tp_log_check.specs.TakenLines.{Answers, LogState};
 
-use crate::cause::Cause;
+use crate::rejection::Rejection;
 use crate::{Flaw, LogChecker};
 use tp_stream::{LineTaker, Refusal};
 
@@ -22,7 +22,7 @@ pub(crate) struct Checked {
     /// Of the lines that were taken.
     pub(crate) bytes: u64,
     /// Why the last line is refused.
-    pub(crate) found: Option<Cause>,
+    pub(crate) found: Option<Rejection>,
     /// Whether that is still to be told.
     pub(crate) telling: bool,
 }
@@ -44,7 +44,7 @@ fn is_past_sizes(bytes: u64, events: u32, line: &[u8]) -> bool
 }
 
 impl Checked {
-    fn refuse(&mut self, cause: Cause)
+    fn refuse(&mut self, cause: Rejection)
         ensures { self.new ≡ record self.old { found = Some cause; telling = true } }
     {
         self.found = Some(cause);
@@ -68,7 +68,7 @@ impl LineTaker for Checked {
     fn take_line(&mut self, line: &[u8]) -> Result<(), Refusal> {
         let bytes = self.bytes.saturating_add(line.len() as u64);
         if is_past_sizes(bytes, self.checker.events(), line) {
-            self.refuse(Cause::Log);
+            self.refuse(Rejection::Log);
             return Ok(());
         }
         match self.checker.feed(line) {
@@ -78,7 +78,7 @@ impl LineTaker for Checked {
             }
             Err(Flaw::Memory) => Err(Refusal::Memory),
             Err(flaw) => {
-                self.refuse(Cause::Flaw(flaw));
+                self.refuse(Rejection::Flaw(flaw));
                 Ok(())
             }
         }

@@ -23,7 +23,7 @@ use tp_base::Memory;
 use tp_event_rules::LiveState;
 use tp_event_turn::empty_state_can_begin;
 use tp_log::{LogLine, read_log_line};
-use tp_log_planner::Stop;
+use tp_log_planner::WrongItem;
 use tp_machine::Machine;
 use tp_script::{Event, LineFault};
 
@@ -57,11 +57,11 @@ impl Drop for LogChecker {
 }
 
 /// What is wrong with what is told of the event before a line that is off the grammar.
-fn flaw_before(pending: &Pending, found: Option<Stop>) -> Option<Flaw>
+fn flaw_before(pending: &Pending, found: Option<WrongItem>) -> Option<Flaw>
     ensures known { IfSome result (λ flaw. flaw ≢ WantsMemory) }
     ensures is { IfSome result (λ flaw.
         pending.now.line + 1 + heights pending.now.items.items < 2 ^ 64
-        → (stop : Stop) × (found ≡ Some stop)
+        → (stop : WrongItem) × (found ≡ Some stop)
         × (flaw ≡ flaw_at pending.now.line pending.now.items.items stop)) }
     ensures lies { IfSome result (λ flaw.
         pending.now.line + 1 + heights pending.now.items.items < 2 ^ 64

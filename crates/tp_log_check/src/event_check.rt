@@ -15,7 +15,7 @@ use std::alloc::Global;
 use std::mem;
 use tp_base::Memory;
 use tp_event_rules::LiveState;
-use tp_log_planner::{Stop, Told};
+use tp_log_planner::{Told, WrongItem};
 use tp_machine::Machine;
 
 /// Does the turn of the event that is under way, and says what is wrong with what is told of it. Where something is, or memory is
@@ -25,7 +25,7 @@ pub(crate) fn look(
     machine: &Machine,
     state: &mut LiveState,
     pending: &mut Pending,
-) -> Result<Option<Stop>, Memory>
+) -> Result<Option<WrongItem>, Memory>
     requires can { CanTakeEvents machine.now last_copy (seen state.old) }
     requires stocked { KeepsStock machine.now last_copy (seen state.old) }
     ensures accepted { IfOk result (λ found. MatchOption found
@@ -78,7 +78,7 @@ pub(crate) fn look_off(
     machine: &Machine,
     state: &mut LiveState,
     pending: &mut Pending,
-) -> Result<Option<Stop>, Memory>
+) -> Result<Option<WrongItem>, Memory>
     requires can { CanTakeEvents machine.now last_copy (seen state.old) }
     requires stocked { KeepsStock machine.now last_copy (seen state.old) }
     ensures why { IfOk result (λ found. IfSome found (IsDueOrStops machine.now

@@ -11,7 +11,7 @@ use crate::flaw::Flaw;
 use tp_bound_laws::TreeFlaw;
 use tp_bounds::BoundTree;
 use tp_log::Item;
-use tp_log_planner::{Reason, Stop};
+use tp_log_planner::{Reason, WrongItem};
 
 fn height(item: &Item) -> u64
     ensures { height item.now < 2 ^ 64 → result ≡ height item.now }
@@ -106,7 +106,7 @@ fn flaw_on(line: u64, place: u64, reason: Reason) -> Flaw
 }
 
 /// What is wrong with the items behind the event on this line. It is never want of memory.
-pub(crate) fn flaw_of(items: &[Item], line: u64, stop: Stop) -> Flaw
+pub(crate) fn flaw_of(items: &[Item], line: u64, stop: WrongItem) -> Flaw
     ensures known { result ≢ WantsMemory }
     ensures is { line + 1 + heights items.now < 2 ^ 64
         → result ≡ flaw_at line items.now stop }

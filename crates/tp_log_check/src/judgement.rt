@@ -18,23 +18,23 @@ use tp_event_rules::LiveState;
 use tp_event_turn::{take_event, turns_keep_stock};
 use tp_log::Item;
 use tp_log_laws::{lawful_turns_are_accepted, told_turns_are_whole};
-use tp_log_planner::{Reason, Stop, Told};
+use tp_log_planner::{Reason, Told, WrongItem};
 use tp_machine::Machine;
 use tp_schedule::{Halt, Record};
 use tp_script::Event;
 
-fn due(item: usize) -> Stop
+fn due(item: usize) -> WrongItem
     ensures item { result.item ≡ item }
     ensures reason { result.reason ≡ Reason.Due }
 {
-    Stop {
+    WrongItem {
         item,
         reason: Reason::Due,
     }
 }
 
 /// What is wrong where the turn was done.
-fn judge_done(notes: &[Record], items: &[Item], at: usize) -> Option<Stop>
+fn judge_done(notes: &[Record], items: &[Item], at: usize) -> Option<WrongItem>
     requires { at ≤ length items.now }
     ensures right { IsNone result
         ↔ ((notes.now ≡ records_in items.now) × (trees_in (drop at items.now) ≡ [])) }
@@ -60,7 +60,7 @@ fn judge_done(notes: &[Record], items: &[Item], at: usize) -> Option<Stop>
 }
 
 /// What is wrong where the turn stopped: a record before that is not the one that is due, or what the planner stopped for.
-fn judge_stopped(notes: &[Record], told: &Told) -> Option<Stop>
+fn judge_stopped(notes: &[Record], told: &Told) -> Option<WrongItem>
     ensures some { 1 ≤ told.now.stops → IsSome result }
     ensures why { IfSome result (λ stop. ((stop.reason ≡ Reason.Due)
         × PartsAt notes.now (items_before told.now) stop.item)
@@ -82,7 +82,7 @@ pub(crate) fn judge(
     state: &mut LiveState,
     event: &Event,
     told: &mut Told,
-) -> Result<Option<Stop>, Memory>
+) -> Result<Option<WrongItem>, Memory>
     requires can { CanTakeEvents machine.now last_copy (seen state.old) }
     requires stocked { KeepsStock machine.now last_copy (seen state.old) }
     requires begins { told.old.at ≡ 0 }

@@ -1,7 +1,6 @@
 //! Logs checked entry by entry, from a source to the line of counts: each record is the one that is due, and each plan and each none is proved by its tree.
 #![tactic(auto)]
 
-mod cause;
 mod checked;
 mod checker;
 mod counts;
@@ -16,9 +15,9 @@ mod next_entry;
 mod pending;
 mod quiet;
 mod record_equality;
+mod rejection;
 mod summary;
 
-pub use cause::Cause;
 pub use checker::LogChecker;
 pub use counts::Counts;
 pub use flaw::Flaw;
@@ -26,4 +25,5 @@ pub use line_counts::{height, heights};
 pub use log_source::{LOG_LIMITS, check_log};
 pub use pending::Pending;
 pub use record_equality::same_record;
+pub use rejection::Rejection;
 pub use summary::summary_line;

@@ -5,11 +5,11 @@ ghost use Rattle.tp_log.specs.declared.log_line.LogLine.{LogLine};
 ghost use Rattle.tp_log_check.specs.CheckerState.{HasRead, IsAcceptedLog};
 ghost use Rattle.tp_outside.specs.Outside.{IsCounted, Rises};
 ghost use Rattle.tp_log_check.specs.Ends.{EndsFor, IsAcceptedFrom, IsFresh, IsTakenFrom, StopsFrom};
-ghost use Rattle.tp_log_check.specs.declared.cause.Cause.{Cause};
+ghost use Rattle.tp_log_check.specs.declared.rejection.Rejection.{Rejection};
 
-use crate::cause::Cause;
 use crate::checked::Checked;
 use crate::quiet::Quiet;
+use crate::rejection::Rejection;
 use crate::{Counts, Flaw, LogChecker};
 use std::alloc::Global;
 use tp_machine::Machine;
@@ -23,7 +23,11 @@ pub const LOG_LIMITS: Limits = Limits {
 };
 
 /// Feeds the lines of the source to a checker, up to the first that is refused.
-fn feed_all<S: Source>(alloc: Global, checked: &mut Checked, source: &mut S) -> Result<(), Cause>
+fn feed_all<S: Source>(
+    alloc: Global,
+    checked: &mut Checked,
+    source: &mut S,
+) -> Result<(), Rejection>
     requires fresh { IsFresh checked.old.checker }
     requires none { checked.old.bytes ≡ 0 }
     requires clear { checked.old.telling ≡ false }
@@ -32,15 +36,15 @@ fn feed_all<S: Source>(alloc: Global, checked: &mut Checked, source: &mut S) -> 
     ensures end { OnOk result (IfSome (S.left source.old) (λ _. S.left source.new ≡ Some [])) }
     ensures stops { IfErr result (StopsFrom checked.old.checker.machine (S.left source.old)
         (S.left source.new)) }
-    ensures source { IsErrOf result Cause.Source
+    ensures source { IsErrOf result Rejection.Source
         → Rises (S.faults source.old) (S.faults source.new) }
     ensures counted { IsCounted (S.faults source.old) (S.faults source.new) }
 {
     match stream(alloc, checked, source, &mut Quiet, LOG_LIMITS) {
         Ok(()) => Ok(()),
-        Err(Stop::Memory) => Err(Cause::Memory),
-        Err(Stop::Source) => Err(Cause::Source),
-        Err(Stop::Line(n)) => Err(Cause::Line(n)),
+        Err(Stop::Memory) => Err(Rejection::Memory),
+        Err(Stop::Source) => Err(Rejection::Source),
+        Err(Stop::Line(n)) => Err(Rejection::Line(n)),
         Err(Stop::Sink) => match checked.found {
             Some(cause) => Err(cause),
             // What is told was found.
@@ -53,20 +57,20 @@ fn feed_all<S: Source>(alloc: Global, checked: &mut Checked, source: &mut S) -> 
 }
 
 /// Ends the log of which the checker took all lines.
-fn finish(checker: &mut LogChecker) -> Result<Counts, Cause>
+fn finish(checker: &mut LogChecker) -> Result<Counts, Rejection>
     ensures accepted { IfOk result (λ counts. (told : List LogLine)
         → HasRead checker.old told → IsAcceptedLog checker.old.machine told counts) }
     ensures ends { IfErr result (EndsFor checker.old) }
 {
     match checker.finish() {
         Ok(counts) => Ok(counts),
-        Err(Flaw::Memory) => Err(Cause::Memory),
-        Err(flaw) => Err(Cause::Flaw(flaw)),
+        Err(Flaw::Memory) => Err(Rejection::Memory),
+        Err(flaw) => Err(Rejection::Flaw(flaw)),
     }
 }
 
 /// Ends the log of which all lines were taken.
-fn end(mut checked: Checked) -> Result<Counts, Cause>
+fn end(mut checked: Checked) -> Result<Counts, Rejection>
     ensures accepted { IfOk result (λ counts. (told : List LogLine)
         → HasRead checked.checker told → IsAcceptedLog checked.checker.machine told counts) }
     ensures ends { IfErr result (EndsFor checked.checker) }
@@ -81,18 +85,18 @@ pub fn check_log<S: Source>(
     alloc: Global,
     machine: Machine,
     source: &mut S,
-) -> Result<Counts, Cause>
+) -> Result<Counts, Rejection>
     ensures accepted { IfOk result (IsAcceptedFrom machine (S.left source.old)
         (S.left source.new)) }
     ensures end { OnOk result (IfSome (S.left source.old) (λ _. S.left source.new ≡ Some [])) }
     // Else the first lines were taken, up to the cause.
     ensures stops { IfErr result (StopsFrom machine (S.left source.old) (S.left source.new)) }
-    ensures source { IsErrOf result Cause.Source
+    ensures source { IsErrOf result Rejection.Source
         → Rises (S.faults source.old) (S.faults source.new) }
     ensures counted { IsCounted (S.faults source.old) (S.faults source.new) }
 {
     let Ok(checker) = LogChecker::new(alloc, machine) else {
-        return Err(Cause::Memory);
+        return Err(Rejection::Memory);
     };
     let mut checked = Checked {
         checker,

@@ -27,12 +27,12 @@ use Rattle.tp_log_planner.specs.Failures.{failure_of, is_stop}
 use Rattle.tp_log_planner.specs.ToldMoves.{TakesMoves}
 use Rattle.tp_log_planner.specs.Reasons.{IfStop, IsAskedReason, IsBreach, IsDueInAnswer, IsDueInSettling, IsFrom, IsOff, IsOffAnswer, IsOffSettling, IsSettlingReason, IsTimesReason, IsTreeDue, IsTreeReason, TellSchedule, TellsFault, reason_in, reason_of}
 use Rattle.tp_log_planner.specs.ToldAnswers.{HasStopped, ToldValue}
-use Rattle.tp_log_planner.specs.declared.stop.Failure.{Failure}
-use Rattle.tp_log_planner.specs.declared.stop.Failure.TheVariants as failure
-use Rattle.tp_log_planner.specs.declared.stop.Reason.{Reason}
-use Rattle.tp_log_planner.specs.declared.stop.Reason.TheVariants.{Due as IsDue, Illegal, NotLeast, Tree}
-use Rattle.tp_log_planner.specs.declared.stop.Stop.{Stop}
-use Rattle.tp_log_planner.specs.declared.stop.Wrong.{Wrong}
+use Rattle.tp_log_planner.specs.declared.failure.Failure.{Failure}
+use Rattle.tp_log_planner.specs.declared.failure.Failure.TheVariants as failure
+use Rattle.tp_log_planner.specs.declared.failure.Reason.{Reason}
+use Rattle.tp_log_planner.specs.declared.failure.Reason.TheVariants.{Due as IsDue, Illegal, NotLeast, Tree}
+use Rattle.tp_log_planner.specs.declared.failure.WrongItem.{WrongItem}
+use Rattle.tp_log_planner.specs.declared.failure.Wrong.{Wrong}
 
 -- ---- failures
 
@@ -58,13 +58,13 @@ from-stop here P (failure.Stop found) failure.Memory e from h = absurd cc
 from-stop here P (failure.Stop found) (failure.Stop other) e from h = (from.0, some-reason P found.reason other.reason from.1 h)
 
 -- why it stopped is kept, of so many items
-pub record KeepsWhy (P : ℕ → Reason → Type 0) (s : Option Stop) (long : ℕ) : Type 0 where
+pub record KeepsWhy (P : ℕ → Reason → Type 0) (s : Option WrongItem) (long : ℕ) : Type 0 where
   pub left : ℕ
   pub reason : Reason
   pub kept : s ≡ Some (record { item = long - left; reason = reason })
   pub why : P left reason
 
-pub kept-reason : (P : ℕ → Reason → Type 0) (f : Failure) (s : Option Stop) (p : ToldValue) (halt : Halt) (p' : ToldValue) (long : ℕ) → MatchBool (is_stop f) (HasStopped p halt p') ((halt ≡ NoMemory) × (p' ≡ p)) → halt ≡ Stopped
+pub kept-reason : (P : ℕ → Reason → Type 0) (f : Failure) (s : Option WrongItem) (p : ToldValue) (halt : Halt) (p' : ToldValue) (long : ℕ) → MatchBool (is_stop f) (HasStopped p halt p') ((halt ≡ NoMemory) × (p' ≡ p)) → halt ≡ Stopped
     → IfStop (λ n r. s ≡ Some (record { item = long - n; reason = r })) f → IfStop P f → KeepsWhy P s long
 kept-reason P failure.Memory s p halt p' long match' is kept h = let e = match'.0 in absurd cc
 kept-reason P (failure.Stop found) s p halt p' long match' is kept h = record { left = found.left; reason = found.reason; kept = kept; why = h }

@@ -11,8 +11,8 @@ use Rattle.tp_schedule.specs.declared.parts.Reply.{Reply}
 use Rattle.std.specs.Bool.{MatchBool}
 use Rattle.tp_schedule.specs.declared.parts.Halt.TheVariants.{Memory as NoMemory, Stopped}
 use Rattle.tp_log_planner.specs.Failures.{Denies, is_stop}
-use Rattle.tp_log_planner.specs.declared.stop.Failure.{Failure}
-use Rattle.tp_log_planner.specs.declared.stop.Failure.TheVariants.{Memory as OfMemory, Stop as OfStop}
+use Rattle.tp_log_planner.specs.declared.failure.Failure.{Failure}
+use Rattle.tp_log_planner.specs.declared.failure.Failure.TheVariants.{Memory as OfMemory, Stop as OfStop}
 use Rattle.tp_log_planner.specs.TakenAnswers.{DoTellSettled, TakesAnswer, TakesSettled}
 use Rattle.tp_log_planner.specs.Reasons.{IsReason}
 use Rattle.tp_log_planner.proofs.ReasonFacts.{KeepsWhy}

@@ -7,8 +7,8 @@ use Rattle.tp_schedule.specs.declared.parts.Ask.{Ask}
 use Rattle.tp_schedule.specs.declared.parts.Plan.{Plan}
 use Rattle.tp_bound_laws.specs.declared.claim.Claim.{Claim}
 use Rattle.tp_log_planner.specs.DueTrees.{BeginsWithTree, IsTreeItem}
-use Rattle.tp_log_planner.specs.declared.stop.Failure.{Failure}
-use Rattle.tp_log_planner.specs.declared.stop.Failure.TheVariants.{Memory as NoRoom, Stop}
+use Rattle.tp_log_planner.specs.declared.failure.Failure.{Failure}
+use Rattle.tp_log_planner.specs.declared.failure.Failure.TheVariants.{Memory as NoRoom, Stop}
 use Rattle.tp_bound_laws.specs.Flaws.{IsFlawOf}
 use Rattle.tp_bound_laws.specs.declared.claim.TreeFlaw.{TreeFlaw}
 use Rattle.tp_bound_laws.specs.declared.claim.TreeFlaw.TheVariants.{Memory, RoomRow, Uncovered, NoSuchHop, Weak, NotDead}

@@ -2,9 +2,9 @@
 use Rattle.std.specs.Prelude.{Bool, true, false}
 use Rattle.tp_bound_laws.specs.declared.claim.TreeFlaw.{TreeFlaw}
 use Rattle.tp_bound_laws.specs.declared.claim.TreeFlaw.TheVariants.{Memory as NoMemory}
-use Rattle.tp_log_planner.specs.declared.stop.Failure.{Failure}
-use Rattle.tp_log_planner.specs.declared.stop.Failure.TheVariants.{Memory, Stop}
-use Rattle.tp_log_planner.specs.declared.stop.Reason.TheVariants.{Tree}
+use Rattle.tp_log_planner.specs.declared.failure.Failure.{Failure}
+use Rattle.tp_log_planner.specs.declared.failure.Failure.TheVariants.{Memory, Stop}
+use Rattle.tp_log_planner.specs.declared.failure.Reason.TheVariants.{Tree}
 
 abbrev pub Denies : Type 0 → Failure → Type 0
 Denies P Memory = Unit {0}

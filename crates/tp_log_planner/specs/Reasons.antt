@@ -28,12 +28,12 @@ use Rattle.tp_log_planner.specs.Breaches.{AreOfFault, HasFault, HasOffMove, HasP
 use Rattle.tp_log_planner.specs.ToldMoves.{IsMoveOver, TakesMoves, behind_moves}
 use Rattle.tp_log_planner.specs.ToldPlans.{IsInForm, IsOnlyPlan}
 use Rattle.tp_log_planner.specs.ToldAnswers.{begins_with_tree}
-use Rattle.tp_log_planner.specs.declared.stop.Failure.{Failure}
-use Rattle.tp_log_planner.specs.declared.stop.Failure.TheVariants as failure
-use Rattle.tp_log_planner.specs.declared.stop.Reason.{Reason}
-use Rattle.tp_log_planner.specs.declared.stop.Wrong.{Wrong}
-use Rattle.tp_log_planner.specs.declared.stop.Wrong.TheVariants as wrong
-use Rattle.tp_log_planner.specs.declared.stop.Reason.TheVariants.{Due as IsDue, Illegal, NotLeast, Tree}
+use Rattle.tp_log_planner.specs.declared.failure.Failure.{Failure}
+use Rattle.tp_log_planner.specs.declared.failure.Failure.TheVariants as failure
+use Rattle.tp_log_planner.specs.declared.failure.Reason.{Reason}
+use Rattle.tp_log_planner.specs.declared.failure.Wrong.{Wrong}
+use Rattle.tp_log_planner.specs.declared.failure.Wrong.TheVariants as wrong
+use Rattle.tp_log_planner.specs.declared.failure.Reason.TheVariants.{Due as IsDue, Illegal, NotLeast, Tree}
 
 -- what holds of the reason of a failure, and of how many items there are from the wrong one on, if that is no want of memory
 abbrev pub IfStop : (ℕ → Reason → Type 0) → Failure → Type 0

@@ -5,7 +5,7 @@ use Rattle.tp_schedule.specs.PlannerAnswers.{Due}
 use Rattle.tp_schedule.specs.Plans.{AreNamed}
 use Rattle.tp_schedule.specs.declared.parts.Plan.{Plan}
 use Rattle.tp_log_planner.specs.Reasons.{IsReason}
-use Rattle.tp_log_planner.specs.declared.stop.Reason.{Reason}
+use Rattle.tp_log_planner.specs.declared.failure.Reason.{Reason}
 use Rattle.tp_log_planner.specs.ToldAnswers.{TellsDue, ToldValue, ahead, behind_asides}
 
 -- where it stops the items to come don't tell what is due, for the reason that is kept, and none are taken

@@ -21,14 +21,14 @@ use Rattle.tp_event_rules.specs.AnswerRecords.{moves, told_of_reply}
 use Rattle.tp_bound_laws.specs.Claims.{IsTreeFor}
 use Rattle.tp_bound_laws.specs.declared.claim.Claim.TheVariants.{Earliest, Never as NeverClaim}
 use Rattle.tp_schedule_check.specs.Faults.{IsRight}
-use Rattle.tp_log_planner.specs.declared.stop.Stop.{Stop}
+use Rattle.tp_log_planner.specs.declared.failure.WrongItem.{WrongItem}
 
 -- the items of an event, how many of them are taken, how often the planner stopped, and why it stopped last, if it did
 pub record ToldValue : Type 0 where
   pub items : List Item
   pub at : ℕ
   pub stops : ℕ
-  pub stop : Option Stop
+  pub stop : Option WrongItem
 
 -- the items that are to come
 abbrev pub ahead : ToldValue → List Item

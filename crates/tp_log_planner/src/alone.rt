@@ -8,7 +8,7 @@ ghost use Rattle.tp_log_planner.specs.Breaches.{IsOffByItself, IsOutOfBounds, Is
 ghost use Rattle.tp_log_planner.specs.ToldMoves.{IsKeptPlan};
 ghost use Rattle.tp_log_planner.specs.Reasons.{IsOff};
 
-use crate::stop::Wrong;
+use crate::failure::Wrong;
 use std::alloc::Global;
 use tp_base::{Memory, Tick};
 use tp_machine::Machine;

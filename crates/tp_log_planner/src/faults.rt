@@ -6,9 +6,9 @@ ghost use Rattle.tp_schedule.specs.Plans.{IsFormed};
 ghost use Rattle.tp_schedule_check.specs.declared.fault.Fault.TheVariants.{Clash as OfClash, Order};
 ghost use Rattle.tp_log_planner.specs.Breaches.{Begins, BeginsAt, BeginsIn};
 ghost use Rattle.tp_log_planner.specs.Reasons.{TellsFault};
-ghost use Rattle.tp_log_planner.specs.declared.stop.Reason.TheVariants.{Due as IsDue, Illegal};
+ghost use Rattle.tp_log_planner.specs.declared.failure.Reason.TheVariants.{Due as IsDue, Illegal};
 
-use crate::stop::{FoundReason, Reason};
+use crate::failure::{FoundReason, Reason};
 use tp_base::Tick;
 use tp_event_records::label;
 use tp_log::Item;

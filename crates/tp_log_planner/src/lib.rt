@@ -4,15 +4,15 @@
 mod action_names;
 mod alone;
 mod asides;
+mod failure;
 mod faults;
 mod points;
 mod settled_times;
-mod stop;
 mod told;
 mod told_answer;
 mod told_moves;
 mod told_plan;
 mod trees;
 
-pub use stop::{Reason, Stop};
+pub use failure::{Reason, WrongItem};
 pub use told::Told;

@@ -8,8 +8,8 @@ ghost use Rattle.tp_log_planner.specs.Failures.{Denies};
 ghost use Rattle.tp_log_planner.specs.Reasons.{IfStop, IsSettlingReason, IsTimesReason};
 ghost use Rattle.tp_log_planner.specs.ToldAnswers.{behind_asides};
 
+use crate::failure::Failure;
 use crate::faults::Read;
-use crate::stop::Failure;
 use crate::told_answer::ahead_of;
 use crate::told_moves::{Moving, take_all_moves};
 use std::alloc::Global;

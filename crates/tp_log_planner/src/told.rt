@@ -3,8 +3,8 @@ ghost use Rattle.std.specs.Prelude.{◌≡◌, ◌≤◌, drop, length};
 ghost use Rattle.tp_schedule.specs.PlannerAnswers.{HasRisen};
 
 use crate::asides::next_from;
+use crate::failure::{Failure, WrongItem};
 use crate::settled_times::take_settled;
-use crate::stop::{Failure, Stop};
 use crate::told_answer::take_answer;
 use std::alloc::Global;
 use std::marker::Model;
@@ -21,7 +21,7 @@ pub struct Told {
     items: Vec<Item>,
     at: usize,
     stops: u64,
-    stop: Option<Stop>,
+    stop: Option<WrongItem>,
 }
 
 impl Model for Told {
@@ -99,7 +99,7 @@ impl Told {
     }
 
     /// Why it stopped last, if it did.
-    pub fn stop(&self) -> Option<Stop>
+    pub fn stop(&self) -> Option<WrongItem>
         ensures last { result ≡ self.now.stop }
         ensures counted { MatchOption result (self.now.stops ≡ 0) (λ stop. 1 ≤ self.now.stops) }
     {
@@ -124,7 +124,7 @@ impl Told {
             Failure::Memory => Halt::Memory,
             Failure::Stop(found) => {
                 self.stops = count_stop(self.stops);
-                self.stop = Some(Stop {
+                self.stop = Some(WrongItem {
                     item: self.items.len().saturating_sub(found.left),
                     reason: found.reason,
                 });

@@ -16,12 +16,12 @@ ghost use Rattle.tp_log_planner.specs.Breaches.{TellsUnfit};
 ghost use Rattle.tp_log_planner.specs.Failures.{Denies, is_stop};
 ghost use Rattle.tp_log_planner.specs.ToldPlans.{IsOnlyPlan, TellsNoForm, TellsNoPlan};
 ghost use Rattle.tp_log_planner.specs.Reasons.{IfStop, IsAskedReason, IsFrom, IsOff, IsTimesReason, reason_in, reason_of};
-ghost use Rattle.tp_log_planner.specs.declared.stop.Reason.TheVariants.{Due as IsDue};
+ghost use Rattle.tp_log_planner.specs.declared.failure.Reason.TheVariants.{Due as IsDue};
 ghost use Rattle.tp_log_planner.specs.ToldAnswers.{TellsDue, behind_asides, is_aside, is_other, is_plan};
 
 use crate::alone::find_in_plan;
+use crate::failure::{Failure, FoundReason, Reason, Wrong, reason_of};
 use crate::faults::Read;
-use crate::stop::{Failure, FoundReason, Reason, Wrong, reason_of};
 use crate::told_moves::{Moving, take_all_moves};
 use crate::told_plan::read_plan;
 use crate::trees::take_tree;

@@ -10,8 +10,8 @@ ghost use Rattle.tp_log_planner.specs.ToldAnswers.{begins_with_move};
 
 use crate::alone::{find_in_plan, find_unkept};
 use crate::asides::begins_with_move;
+use crate::failure::{Failure, FoundReason, Reason, Wrong, reason_of};
 use crate::points::points_of;
-use crate::stop::{Failure, FoundReason, Reason, Wrong, reason_of};
 use std::alloc::Global;
 use tp_base::{Memory, Tick};
 use tp_event_records::label;

@@ -13,8 +13,8 @@ ghost use Rattle.tp_log_planner.specs.ToldPlans.{AreMismatched, DoFit, IsJoined,
 ghost use Rattle.tp_log_planner.specs.Reasons.{IsOff};
 
 use crate::action_names::add_named;
+use crate::failure::Wrong;
 use crate::points::points_behind;
-use crate::stop::Wrong;
 use tp_base::{Name, Tick};
 use tp_event_records::location_name;
 use tp_machine::{Machine, machine_law};

@@ -7,7 +7,7 @@ ghost use Rattle.tp_log_planner.specs.Failures.{Denies, failure_of, is_stop};
 ghost use Rattle.tp_log_planner.specs.Reasons.{IfStop, IsFrom, IsTreeReason, reason_in};
 ghost use Rattle.tp_log_planner.specs.DueTrees.{BeginsWithTree, IsTreeItem};
 
-use crate::stop::{Failure, FoundReason, Reason};
+use crate::failure::{Failure, FoundReason, Reason};
 use std::alloc::Global;
 use tp_bound_check::check_bound;
 use tp_bound_laws::{Claim, TreeFlaw, flawless_trees_are_bound};

@@ -4,15 +4,15 @@ use Rattle.std.specs.Prelude.{IfSome}
 use Rattle.tp_log_check.specs.declared.counts.Counts.{Counts}
 use Rattle.tp_machine.specs.declared.machine.Machine.{Machine}
 use Rattle.tp_log_check.specs.Ends.{IsAcceptedFrom, StopsFrom}
-use Rattle.tp_log_check.specs.declared.cause.Cause.{Cause}
-use Rattle.tp_log_check.specs.declared.cause.Cause.TheVariants as cause
+use Rattle.tp_log_check.specs.declared.rejection.Rejection.{Rejection}
+use Rattle.tp_log_check.specs.declared.rejection.Rejection.TheVariants as cause
 use Rattle.tp_program.specs.Checks.{ChecksOn, WritesCounts, status_of}
 use Rattle.tp_program.specs.declared.status.Status.{Status}
 use Rattle.tp_program.specs.declared.status.Status.TheVariants as status
 
 module _ {K : Type 0} (taken : K → Option (List ℕ)) (machine : Machine) (left left' : Option (List ℕ)) (sink sink' : K) where
   -- it stopped, and nothing was written
-  pub checks-stopped : (why : Cause) → StopsFrom machine left left' why → sink' ≡ sink → ChecksOn taken machine left left' sink sink' (status_of why)
+  pub checks-stopped : (why : Rejection) → StopsFrom machine left left' why → sink' ≡ sink → ChecksOn taken machine left left' sink sink' (status_of why)
   checks-stopped cause.Memory stops same = same
   checks-stopped cause.Source stops same = (stops, same)
   checks-stopped (cause.Line n) stops same = (stops, same)

@@ -8,7 +8,7 @@ use Rattle.tp_stream.proofs.Lines.{lines_after}
 use Rattle.tp_words.specs.Texts.{lines_of, onto_line}
 use Rattle.tp_log_check.specs.Ends.{StopsAt}
 use Rattle.tp_log_check.specs.Sizes.{KeepsSizes, begins_event, event_lines, events_in}
-use Rattle.tp_log_check.specs.declared.cause.Cause.TheVariants.{Log}
+use Rattle.tp_log_check.specs.declared.rejection.Rejection.TheVariants.{Log}
 use Rattle.tp_log_check.proofs.FedLines.{begins-more}
 
 first-line : (lines : List (List ℕ)) → 0 < count_by begins_event (onto_line 62 (onto_line 32 lines))

@@ -7,8 +7,8 @@ use Rattle.tp_command.specs.Form.{Asked}
 use Rattle.tp_log_check.specs.declared.counts.Counts.{Counts}
 use Rattle.tp_log_check.specs.Ends.{IsAcceptedFrom, StopsFrom}
 use Rattle.tp_log_check.specs.Summary.{counts_text}
-use Rattle.tp_log_check.specs.declared.cause.Cause.{Cause}
-use Rattle.tp_log_check.specs.declared.cause.Cause.TheVariants as cause
+use Rattle.tp_log_check.specs.declared.rejection.Rejection.{Rejection}
+use Rattle.tp_log_check.specs.declared.rejection.Rejection.TheVariants as cause
 use Rattle.tp_program.specs.Runs.{NoMachine}
 use Rattle.tp_program.specs.Texts.{IsShelved}
 use Rattle.tp_program.specs.WrittenText.{WritesOne}
@@ -16,7 +16,7 @@ use Rattle.tp_program.specs.declared.status.Long.TheVariants.{Line, Log}
 use Rattle.tp_program.specs.declared.status.Status.{Status}
 use Rattle.tp_program.specs.declared.status.Status.TheVariants.{Done, Memory, Source, Sink, TooLong, Rejected}
 
-abbrev pub status_of : Cause → Status
+abbrev pub status_of : Rejection → Status
 status_of cause.Memory = Memory
 status_of cause.Source = Source
 status_of (cause.Line n) = TooLong (Line n)
@@ -38,7 +38,7 @@ module _ {K : Type 0} (taken : K → Option (List ℕ)) (machine : Machine) (lef
     pub written : WritesCounts counts (taken sink) (taken sink') status
 
   -- the first lines were those of such a log so far, up to the cause, and nothing was written
-  abbrev pub StopsBy : Cause → Type 0
+  abbrev pub StopsBy : Rejection → Type 0
   StopsBy why = StopsFrom machine left left' why × (sink' ≡ sink)
 
   abbrev pub ChecksOn : Status → Type 0

@@ -9,19 +9,19 @@ use crate::machine::find_machine;
 use crate::{Long, Status};
 use std::alloc::Global;
 use tp_command::Request;
-use tp_log_check::{Cause, Counts, check_log, summary_line};
+use tp_log_check::{Counts, Rejection, check_log, summary_line};
 use tp_machine::Machine;
 use tp_outside::{Failed, Shelf, Sink, Source, write_all};
 
-fn status_of(cause: Cause) -> Status
+fn status_of(cause: Rejection) -> Status
     ensures { result ≡ status_of cause }
 {
     match cause {
-        Cause::Memory => Status::Memory,
-        Cause::Source => Status::Source,
-        Cause::Line(n) => Status::TooLong(Long::Line(n)),
-        Cause::Log => Status::TooLong(Long::Log),
-        Cause::Flaw(flaw) => Status::Rejected(flaw),
+        Rejection::Memory => Status::Memory,
+        Rejection::Source => Status::Source,
+        Rejection::Line(n) => Status::TooLong(Long::Line(n)),
+        Rejection::Log => Status::TooLong(Long::Log),
+        Rejection::Flaw(flaw) => Status::Rejected(flaw),
     }
 }
 

@@ -21,8 +21,8 @@ use Rattle.tp_stream.specs.Tellers.{TellsAll}
 use Rattle.tp_event_rules.specs.Logs.{Entry}
 use Rattle.tp_soak.specs.SoakCounts.{counts_of, tells}
 use Rattle.tp_soak.specs.Summaries.{IsCountedRun, IsLogText}
-use Rattle.tp_soak.specs.declared.counts.Counts.{Counts}
-use Rattle.tp_soak.specs.declared.counts.ItemKind.TheVariants as kind
+use Rattle.tp_soak.specs.declared.record_counts.RecordCounts.{RecordCounts}
+use Rattle.tp_soak.specs.declared.record_counts.ItemKind.TheVariants as kind
 
 count-append : (xs ys : List Item) → count_by (tells kind.Event) (xs ++ ys) ≡ count_by (tells kind.Event) xs + count_by (tells kind.Event) ys
 count-append xs ys = sum_by-append (λ x. cond (tells kind.Event x) 1 0) xs ys
@@ -58,9 +58,9 @@ echoes-in (e ∷ log) =
     omega (arith, first, parts, none, others)
 
 -- the log of a run has as many events as were answered
-pub events_counted : (machine : Machine) (budget : ℕ) (events : List Event) (counts : Counts) → IsCountedRun machine budget events counts → counts.events ≡ length events
+pub events_counted : (machine : Machine) (budget : ℕ) (events : List Event) (counts : RecordCounts) → IsCountedRun machine budget events counts → counts.events ≡ length events
 events_counted machine budget events counts run =
-    ap (λ (c : Counts). c.events) run.counted ∙ echoes-in run.log ∙ sym (length-map run.log (λ e. e.event)) ∙ ap length run.lawful.lawful.answers
+    ap (λ (c : RecordCounts). c.events) run.counted ∙ echoes-in run.log ∙ sym (length-map run.log (λ e. e.event)) ∙ ap length run.lawful.lawful.answers
 
 -- ---- what a session told from its start is the log of a run
 
@@ -72,7 +72,7 @@ module _ (machine : Machine) (budget : Option ℕ) (events : List Event) (text p
   pub is_log_text : IsLogText piece
   is_log_text = (items_in run_of.log, run_of.lawful.has_text, same ∙ run_of.is_text)
 
-  pub counted_run : (result : Result Counts Memory) → ((items : List Item) → IsLog items → piece ≡ log_text items → IfOk result (λ counts. counts ≡ counts_of items))
+  pub counted_run : (result : Result RecordCounts Memory) → ((items : List Item) → IsLog items → piece ≡ log_text items → IfOk result (λ counts. counts ≡ counts_of items))
       → IfOk result (IsCountedRun machine (unwrap_or budget machine.budget) events)
   counted_run result counts =
       IfOk-weaker result _ _ (λ c are. record { log = run_of.log; lawful = run_of.lawful; counted = are }) (counts (items_in run_of.log) run_of.lawful.has_text (same ∙ run_of.is_text))

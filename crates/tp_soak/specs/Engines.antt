@@ -1,12 +1,12 @@
 -- The engines of a case.
 use Rattle.std.specs.Prelude.{ℕ, ◌+◌, List, [], ◌∷◌, ◌++◌, fold, take}
 use Rattle.tp_soak.specs.Draws.{next, drawn}
-use Rattle.tp_soak.specs.declared.engine.Engine.{Engine}
+use Rattle.tp_soak.specs.declared.made_engine.MadeEngine.{MadeEngine}
 
 -- the state of the draws, and the engines so far
 pub record Drawing : Type 0 where
   pub state : ℕ
-  pub engines : List Engine
+  pub engines : List MadeEngine
 
 -- one engine more: its least duration is 4 and a draw of 8
 abbrev pub with_engine : Drawing → ℕ → Drawing

@@ -8,7 +8,7 @@ use Rattle.tp_machine.specs.declared.parts.Feeder.{Feeder}
 use Rattle.tp_machine.specs.declared.parts.HoldRule.{HoldRule}
 use Rattle.tp_machine.specs.declared.parts.LocId.{LocId}
 use Rattle.tp_machine.specs.declared.parts.Resource.{Resource}
-use Rattle.tp_soak.specs.declared.engine.Engine.{Engine}
+use Rattle.tp_soak.specs.declared.made_engine.MadeEngine.{MadeEngine}
 
 -- ---- names
 
@@ -19,7 +19,7 @@ abbrev pub numbered : List ℕ → ℕ → List ℕ
 numbered text number = text ++ decimal number
 
 -- the engines' modules stand at the end
-abbrev pub modules : List Engine → List (List ℕ)
+abbrev pub modules : List MadeEngine → List (List ℕ)
 modules engines = codes "FEED" ∷ codes "OUT" ∷ codes "DUMP" ∷ map (λ e. numbered (codes "ENG") e.number) engines
 
 -- ---- locations by their places
@@ -35,10 +35,10 @@ feeder = record { loc = at 0; media = codes "plain"; stock = None }
 abbrev pub resource : List ℕ → ℕ → Resource
 resource name owner = record { name = name; «module» = record { 0 = owner }; gap = 0 }
 
-abbrev pub engine_resource : Engine → Resource
+abbrev pub engine_resource : MadeEngine → Resource
 engine_resource e = resource (numbered (codes "r") e.number) (2 + e.number)
 
-abbrev pub resources : List Engine → List Resource
+abbrev pub resources : List MadeEngine → List Resource
 resources engines = map engine_resource engines ++ resource (codes "rf") 0 ∷ resource (codes "rt") 1 ∷ []
 
 -- ---- actions
@@ -66,7 +66,7 @@ abbrev pub feed : ℕ → Action
 feed engines = record (way (codes "feed") 0 0 1 2 4) { holds = hold engines Start (pos 0) Start (pos 2) ∷ [] }
 
 -- an engine prints both kinds, and holds its resource from start to end
-abbrev pub print : Engine → Action
+abbrev pub print : MadeEngine → Action
 print e = record (way (numbered (codes "print") e.number) (2 + e.number) 1 2 e.least (e.least + 4)) {
   mono = true;
   colour = true;
@@ -79,12 +79,12 @@ out engines = record (way (codes "out") 1 2 3 3 30) { holds = hold (engines + 1)
 abbrev pub dump : Action
 dump = way (codes "dump") 2 2 4 3 3
 
-abbrev pub actions : List Engine → List Action
+abbrev pub actions : List MadeEngine → List Action
 actions engines = feed (length engines) ∷ (map print engines ++ out (length engines) ∷ dump ∷ [])
 
 -- ---- the machine of these engines
 
-pub record IsMachineWith (engines : List Engine) (machine : Machine) : Type 0 where
+pub record IsMachineWith (engines : List MadeEngine) (machine : Machine) : Type 0 where
   pub lead : machine.lead ≡ 2
   pub window : machine.window ≡ 300
   pub budget : machine.budget ≡ 20000

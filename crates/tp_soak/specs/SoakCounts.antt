@@ -4,9 +4,9 @@ use Rattle.tp_log.specs.declared.item.Item.{Item}
 use Rattle.tp_log.specs.declared.item.Item.TheVariants.{Event, Note, Tree}
 use Rattle.tp_schedule.specs.declared.records.Record.{Record}
 use Rattle.tp_schedule.specs.declared.records.Record.TheVariants.{Plan, Move, Never, Budget, Release, Done, Lost}
-use Rattle.tp_soak.specs.declared.counts.Counts.{Counts}
-use Rattle.tp_soak.specs.declared.counts.ItemKind.{ItemKind}
-use Rattle.tp_soak.specs.declared.counts.ItemKind.TheVariants as kind
+use Rattle.tp_soak.specs.declared.record_counts.RecordCounts.{RecordCounts}
+use Rattle.tp_soak.specs.declared.record_counts.ItemKind.{ItemKind}
+use Rattle.tp_soak.specs.declared.record_counts.ItemKind.TheVariants as kind
 
 -- ---- counts
 
@@ -33,7 +33,7 @@ tells kind (Event event) = is_event kind
 tells kind (Tree tree) = false
 
 -- the events of a log, and its records of each kind
-abbrev pub counts_of : List Item → Counts
+abbrev pub counts_of : List Item → RecordCounts
 counts_of items = record {
   events = count_by (tells kind.Event) items;
   plans = count_by (tells kind.Plan) items;
@@ -47,15 +47,15 @@ counts_of items = record {
 
 -- ---- the line, with its LF
 
-unfoldable pub head_text : ℕ → Counts → List ℕ
+unfoldable pub head_text : ℕ → RecordCounts → List ℕ
 head_text arg c =
     (codes "soak " ++ decimal arg) ++ (codes " events " ++ decimal c.events) ++ (codes " plans " ++ decimal c.plans)
     ++ (codes " moves " ++ decimal c.moves) ++ (codes " releases " ++ decimal c.releases)
 
-unfoldable pub tail_text : Counts → List ℕ
+unfoldable pub tail_text : RecordCounts → List ℕ
 tail_text c =
     (codes " dones " ++ decimal c.dones) ++ (codes " lost " ++ decimal c.lost) ++ (codes " nones " ++ decimal c.nones)
     ++ (codes " budgets " ++ decimal c.budgets) ++ codes "\n"
 
-abbrev pub summary_text : ℕ → Counts → List ℕ
+abbrev pub summary_text : ℕ → RecordCounts → List ℕ
 summary_text arg c = head_text arg c ++ tail_text c

@@ -10,14 +10,14 @@ use Rattle.tp_script.specs.declared.event.Event.{Event}
 use Rattle.tp_session.specs.Sessions.{Standing, start_of}
 use Rattle.tp_event_rules.specs.Logs.{Entry}
 use Rattle.tp_soak.specs.SoakCounts.{counts_of, summary_text}
-use Rattle.tp_soak.specs.declared.counts.Counts.{Counts}
+use Rattle.tp_soak.specs.declared.record_counts.RecordCounts.{RecordCounts}
 
 -- the text is a log's
 abbrev pub IsLogText : List ℕ → Type 0
 IsLogText text = (items : List Item) × IsLog items × (text ≡ log_text items)
 
 -- these are the counts of a log that answers the events on the machine by a lawful run with bounds
-pub record IsCountedRun (machine : Machine) (budget : ℕ) (events : List Event) (counts : Counts) : Type 0 where
+pub record IsCountedRun (machine : Machine) (budget : ℕ) (events : List Event) (counts : RecordCounts) : Type 0 where
   pub log : List (Entry BoundTree)
   pub lawful : IsLawfulRun machine budget true events log
   pub counted : counts ≡ counts_of (items_in log)
@@ -30,7 +30,7 @@ IsAtStart standing = (machine : Machine) × ((budget : Option ℕ) × (standing 
 pub record IsSummary (arg : ℕ) (budget : Option ℕ) (line : List ℕ) : Type 0 where
   pub machine : Machine
   pub is_machine : IsMachineFor arg machine
-  pub counts : Counts
+  pub counts : RecordCounts
   pub run : IsCountedRun machine (unwrap_or budget machine.budget) (events_for arg) counts
   pub of_27 : counts.events ≡ 27
   pub is_line : line ≡ summary_text arg counts

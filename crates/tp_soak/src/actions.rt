@@ -5,7 +5,7 @@ ghost use Rattle.tp_soak.specs.Kept.{IsDrawn};
 ghost use Rattle.tp_soak.specs.Machines.{actions, dump, feed, hold, out, print, way};
 
 use crate::case_names::{name_of, numbered};
-use crate::engine::Engine;
+use crate::made_engine::MadeEngine;
 use std::alloc::Global;
 use tp_base::{Items, Memory, Name};
 use tp_machine::{Action, Anchor, HoldRule, Holds, LocId, ModId, ResId};
@@ -52,7 +52,7 @@ fn feed(engines: u16) -> Action
     action
 }
 
-fn print(alloc: Global, engine: Engine) -> Result<Action, Memory>
+fn print(alloc: Global, engine: MadeEngine) -> Result<Action, Memory>
     requires { IsDrawn (engine ∷ []) }
     ensures { IfOk result (λ action. action ≡ print engine) }
 {
@@ -76,7 +76,7 @@ fn out(engines: u16) -> Action
 }
 
 /// The actions: feeding, the prints of these engines, putting out and dumping.
-pub(crate) fn actions(alloc: Global, engines: &[Engine]) -> Result<Items<Action>, Memory>
+pub(crate) fn actions(alloc: Global, engines: &[MadeEngine]) -> Result<Items<Action>, Memory>
     requires drawn { IsDrawn engines.now }
     requires few { length engines.now < 5 }
     ensures { IfOk result (λ items. items ≡ actions engines.now) }

@@ -5,8 +5,8 @@ ghost use Rattle.tp_soak.specs.Cases.{IsMachineFor, events_for};
 ghost use Rattle.tp_soak.specs.Scripts.{IsScripted};
 
 use crate::draws::Draws;
-use crate::engine::draw_engines;
 use crate::machine::machine_with;
+use crate::made_engine::draw_engines;
 use crate::script::script;
 use std::alloc::Global;
 use tp_base::Memory;

@@ -10,7 +10,7 @@ ghost use Rattle.tp_soak.specs.SoakCounts.{counts_of};
 ghost use Rattle.tp_soak.specs.Summaries.{IsAtStart, IsCountedRun, IsLogText, IsSummary};
 ghost use Rattle.tp_stream.specs.Tellers.{TellsAll, most_events};
 
-use crate::counts::{Counts, counts_of};
+use crate::record_counts::{RecordCounts, counts_of};
 use crate::summary::put_summary;
 use crate::{Case, soak_case};
 use std::alloc::Global;
@@ -38,7 +38,7 @@ fn answer_all(session: &mut Session, events: &[Event]) -> Result<(), Memory>
 }
 
 /// Reads the text of a log line by line, and counts what it tells. A text of 4 GB or more counts as want of memory.
-fn count_text(alloc: Global, text: &[u8]) -> Result<Counts, Memory>
+fn count_text(alloc: Global, text: &[u8]) -> Result<RecordCounts, Memory>
     requires { IsLogText text.now }
     ensures { (items : List Item) → IsLog items → text.now ≡ log_text items
         → IfOk result (λ counts. counts ≡ counts_of items) }
@@ -55,7 +55,7 @@ fn count_text(alloc: Global, text: &[u8]) -> Result<Counts, Memory>
 }
 
 /// Answers the events by a session at its start, and counts what its log tells.
-fn count_log(alloc: Global, session: &mut Session, events: &[Event]) -> Result<Counts, Memory>
+fn count_log(alloc: Global, session: &mut Session, events: &[Event]) -> Result<RecordCounts, Memory>
     requires few { session.old.answered + length events.now ≤ most_events }
     requires clear { session.old.text ≡ [] }
     requires echoed { All IsEchoed events.now }
@@ -75,7 +75,7 @@ fn count_run(
     machine: Machine,
     budget: Option<u32>,
     events: &[Event],
-) -> Result<Counts, Memory>
+) -> Result<RecordCounts, Memory>
     requires few { length events.now ≤ most_events }
     requires echoed { All IsEchoed events.now }
     ensures { IfOk result (IsCountedRun machine (unwrap_or budget machine.budget) events.now) }
@@ -95,7 +95,7 @@ fn count_run(
 }
 
 /// Answers the events of the case on its machine, and counts what the log tells.
-fn count_case(alloc: Global, case: Case, budget: Option<u32>) -> Result<Counts, Memory>
+fn count_case(alloc: Global, case: Case, budget: Option<u32>) -> Result<RecordCounts, Memory>
     requires few { length case.events.items ≤ most_events }
     requires echoed { All IsEchoed case.events.items }
     ensures { IfOk result (IsCountedRun case.machine (unwrap_or budget case.machine.budget)

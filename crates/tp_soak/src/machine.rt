@@ -6,14 +6,14 @@ ghost use Rattle.tp_soak.specs.Machines.{IsMachineWith, at, feeder, modules};
 
 use crate::actions::actions;
 use crate::case_names::{name_of, names_in};
-use crate::engine::Engine;
+use crate::made_engine::MadeEngine;
 use crate::resources::resources;
 use std::alloc::Global;
 use tp_base::{Items, Memory};
 use tp_machine::{Feeder, LocId, Machine, Names};
 
 /// The modules: those of the feeder and the ways out, and then those of the engines.
-fn modules(alloc: Global, engines: &[Engine]) -> Result<Names, Memory>
+fn modules(alloc: Global, engines: &[MadeEngine]) -> Result<Names, Memory>
     requires { AreEngines engines.now }
     ensures { IfOk result (λ names. names ≡ modules engines.now) }
 {
@@ -48,7 +48,7 @@ fn feeders(alloc: Global) -> Result<Items<Feeder>, Memory>
 }
 
 /// The machine of these engines.
-pub(crate) fn machine_with(alloc: Global, engines: &[Engine]) -> Result<Machine, Memory>
+pub(crate) fn machine_with(alloc: Global, engines: &[MadeEngine]) -> Result<Machine, Memory>
     requires { AreEngines engines.now }
     ensures { IfOk result (IsMachineWith engines.now) }
 {

@@ -5,7 +5,7 @@ ghost use Rattle.tp_soak.specs.Kept.{IsDrawn};
 ghost use Rattle.tp_soak.specs.Machines.{resource, resources};
 
 use crate::case_names::{name_of, numbered};
-use crate::engine::Engine;
+use crate::made_engine::MadeEngine;
 use std::alloc::Global;
 use tp_base::{Items, Memory, Name};
 use tp_machine::{ModId, Resource};
@@ -21,7 +21,7 @@ fn resource(name: Name, owner: u8) -> Resource
 }
 
 /// The resources of these engines, and those of the feeder and the way out.
-pub(crate) fn resources(alloc: Global, engines: &[Engine]) -> Result<Items<Resource>, Memory>
+pub(crate) fn resources(alloc: Global, engines: &[MadeEngine]) -> Result<Items<Resource>, Memory>
     requires drawn { IsDrawn engines.now }
     requires few { length engines.now < 5 }
     ensures { IfOk result (λ items. items ≡ resources engines.now) }

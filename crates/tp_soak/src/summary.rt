@@ -3,7 +3,7 @@
 ghost use Rattle.std.specs.Prelude.{◌≡◌, ◌++◌, OnOk, decimal};
 ghost use Rattle.tp_soak.specs.SoakCounts.{head_text, summary_text, tail_text};
 
-use crate::counts::Counts;
+use crate::record_counts::RecordCounts;
 use tp_base::Memory;
 
 /// Writes a number behind a text.
@@ -17,7 +17,7 @@ fn put_count(out: &mut Vec<u8>, lead: &str, count: usize) -> Result<(), Memory>
 }
 
 #[tactic(auto, unfolding(crate::specs::SoakCounts::head_text))]
-fn put_head(out: &mut Vec<u8>, arg: u32, counts: &Counts) -> Result<(), Memory>
+fn put_head(out: &mut Vec<u8>, arg: u32, counts: &RecordCounts) -> Result<(), Memory>
     ensures { OnOk result (out.new.items ≡ out.old.items ++ head_text arg counts.now) }
 {
     put_count(out, "soak ", arg as usize)?;
@@ -29,7 +29,7 @@ fn put_head(out: &mut Vec<u8>, arg: u32, counts: &Counts) -> Result<(), Memory>
 }
 
 #[tactic(auto, unfolding(crate::specs::SoakCounts::tail_text))]
-fn put_tail(out: &mut Vec<u8>, counts: &Counts) -> Result<(), Memory>
+fn put_tail(out: &mut Vec<u8>, counts: &RecordCounts) -> Result<(), Memory>
     ensures { OnOk result (out.new.items ≡ out.old.items ++ tail_text counts.now) }
 {
     put_count(out, " dones ", counts.dones)?;
@@ -41,7 +41,7 @@ fn put_tail(out: &mut Vec<u8>, counts: &Counts) -> Result<(), Memory>
 }
 
 /// Writes the counts of the case of a number as a line, with its LF.
-pub(crate) fn put_summary(out: &mut Vec<u8>, arg: u32, counts: &Counts) -> Result<(), Memory>
+pub(crate) fn put_summary(out: &mut Vec<u8>, arg: u32, counts: &RecordCounts) -> Result<(), Memory>
     ensures { OnOk result (out.new.items ≡ out.old.items ++ summary_text arg counts.now) }
 {
     put_head(out, arg, counts)?;

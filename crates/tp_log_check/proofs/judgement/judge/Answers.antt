@@ -5,8 +5,8 @@ use Rattle.tp_log_planner.specs.ToldAnswers.{ahead}
 use Rattle.tp_event_rules.specs.LiveStates.{seen}
 use Rattle.tp_event_rules.specs.Ready.{last_copy}
 use Rattle.tp_log_check.specs.EventEntry.{trees_in}
-use Rattle.tp_log_planner.specs.declared.stop.Reason.TheVariants as reason
-use Rattle.tp_log_planner.specs.declared.stop.Stop.{Stop}
+use Rattle.tp_log_planner.specs.declared.failure.Reason.TheVariants as reason
+use Rattle.tp_log_planner.specs.declared.failure.WrongItem.{WrongItem}
 use Rattle.tp_log_check.specs.Causes.{IsDueOrStops}
 use Rattle.tp_log_check.specs.FirstDifference.{IsOffAt, PartsAt, items_before}
 use Rattle.tp_log_check.proofs.FlawCauses.{found-some, some-from}
@@ -76,7 +76,7 @@ returns-in-Ok-clause-why c =
     let same_items : told'.items ≡ told.items = c.in-Ok.ensures.lasts in
     let seen_items : c.items.result.now ≡ told.items = c.items.ensures ∙ same_items in
     let all : c.as_slice.result.now ≡ noted.0 = c.as_slice.ensures.value ∙ noted.1 ∙ ap (λ notes. notes ++ noted.0) c.new-notes.ensures.items in
-    some-from (λ (stop : Stop). (stop.reason ≡ reason.Due) × IsOffAt c.as_slice.result.now c.items.result.now c.at.result stop.item)
+    some-from (λ (stop : WrongItem). (stop.reason ≡ reason.Due) × IsOffAt c.as_slice.result.now c.items.result.now c.at.result stop.item)
     (IsDueOrStops c.args.machine.now (seen c.args.state.now) c.args.event.now told.items) c.judge_done.result (λ stop due. inl (
       due.0,
       inl (record {
@@ -98,7 +98,7 @@ returns-in-Err-Stopped-clause-why c =
     let told = c.args.told.now in
     let last = c.take_event.new.planner in
     let all : c.as_slice-in-Err-Stopped.result.now ≡ stops.0 = c.as_slice-in-Err-Stopped.ensures.value ∙ stops.1 ∙ ap (λ notes. notes ++ stops.0) c.new-notes.ensures.items in
-    some-from (λ (stop : Stop). ((stop.reason ≡ reason.Due) × PartsAt c.as_slice-in-Err-Stopped.result.now (items_before last) stop.item)
+    some-from (λ (stop : WrongItem). ((stop.reason ≡ reason.Due) × PartsAt c.as_slice-in-Err-Stopped.result.now (items_before last) stop.item)
     ⊎ ((last.stop ≡ Some stop) × (c.as_slice-in-Err-Stopped.result.now ≡ records_in (items_before last))))
     (IsDueOrStops c.args.machine.now (seen c.args.state.now) c.args.event.now told.items) c.judge_stopped.result (λ stop why. elim why [
       | inl due ↦ inl (

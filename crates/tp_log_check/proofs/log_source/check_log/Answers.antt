@@ -1,7 +1,7 @@
 -- The log is accepted, or its first lines were taken.
 use Rattle.std.proofs.Common.{◌≡◌, ◌∙◌, ap, Err}
 use Rattle.std.proofs.lemmas.Result.{IfErr-weaker, IfOk-weaker}
-use Rattle.tp_log_check.specs.declared.cause.Cause.TheVariants.{Source}
+use Rattle.tp_log_check.specs.declared.rejection.Rejection.TheVariants.{Source}
 use Rattle.tp_log_check.proofs.LogEnds.{accepted-text, refused-end}
 use Rattle.tp_log_check.proofs.log_source.check_log.Goals as goal
 

@@ -4,10 +4,10 @@ use Rattle.std.specs.Prelude.{Bool, not}
 use Rattle.std.proofs.lemmas.Fn.{filter_same}
 use Rattle.tp_chart.specs.Courses.{Way, is_same_copy}
 use Rattle.tp_chart.specs.Scenes.{Sight}
-use Rattle.tp_chart.specs.declared.outage.Outage.{Outage}
+use Rattle.tp_chart.specs.declared.out_span.OutSpan.{OutSpan}
 use Rattle.tp_chart.proofs.scene.Scene.leave.Goals as goal
 
-abbrev sight : ℕ → List Outage → List Way → Sight
+abbrev sight : ℕ → List OutSpan → List Way → Sight
 sight moment outages ways = record { moment = moment; courses = ways; outages = outages }
 
 pub returns : goal.returns

@@ -8,7 +8,7 @@ use Rattle.tp_schedule.specs.PlannerAnswers.Due.{asking}
 use Rattle.tp_log_planner.specs.TakenAnswers.{TakesAnswer}
 use Rattle.tp_log_planner.specs.ToldAnswers.{TellsDue}
 use Rattle.tp_log_planner.specs.Reasons.{IsAskedReason}
-use Rattle.tp_log_planner.specs.declared.stop.Reason.{Reason}
+use Rattle.tp_log_planner.specs.declared.failure.Reason.{Reason}
 use Rattle.tp_log_planner.proofs.ReasonFacts.{KeepsWhy, kept-reason}
 use Rattle.tp_log_planner.proofs.ToldFacts.{first, halted, stops-asked, takes-on}
 use Rattle.tp_log_planner.proofs.told.ToldPlanner.ask.Goals as goal

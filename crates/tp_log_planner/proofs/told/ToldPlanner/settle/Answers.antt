@@ -6,7 +6,7 @@ use Rattle.tp_schedule.specs.declared.parts.Halt.TheVariants.{Stopped}
 use Rattle.tp_log_planner.specs.ToldAnswers.{HasStopped, behind_asides}
 use Rattle.tp_log_planner.proofs.MoveSteps.{rest-is}
 use Rattle.tp_log_planner.specs.Reasons.{IsSettlingReason}
-use Rattle.tp_log_planner.specs.declared.stop.Reason.{Reason}
+use Rattle.tp_log_planner.specs.declared.failure.Reason.{Reason}
 use Rattle.tp_log_planner.proofs.ReasonFacts.{KeepsWhy, kept-reason}
 use Rattle.tp_log_planner.proofs.ToldFacts.{first, halted, settles-on, stops-settled}
 use Rattle.tp_log_planner.proofs.told.ToldPlanner.settle.Goals as goal

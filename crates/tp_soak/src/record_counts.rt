@@ -21,7 +21,7 @@ enum ItemKind {
 
 /// How many events a log has, and how many records of each of these kinds.
 #[derive(Clone, Copy, Debug, PartialEq, Eq)]
-pub struct Counts {
+pub struct RecordCounts {
     pub events: usize,
     pub plans: usize,
     pub moves: usize,
@@ -70,10 +70,10 @@ fn count(items: &[Item], kind: ItemKind) -> usize
 }
 
 /// The counts of a log by its items.
-pub(crate) fn counts_of(items: &[Item]) -> Counts
+pub(crate) fn counts_of(items: &[Item]) -> RecordCounts
     ensures { result ≡ counts_of items.now }
 {
-    Counts {
+    RecordCounts {
         events: count(items, ItemKind::Event),
         plans: count(items, ItemKind::Plan),
         moves: count(items, ItemKind::Move),

@@ -7,30 +7,30 @@ use tp_base::Tick;
 
 /// A time in which a module is out. `number` is the module's place in the machine's list; without an end it is out still.
 #[derive(Clone, Copy, PartialEq, Eq, Debug)]
-pub struct Outage {
+pub struct OutSpan {
     pub number: u16,
     pub begin: Tick,
     pub end: Option<Tick>,
 }
 
-fn is_out_in(number: u16, outage: &Outage) -> bool
+fn is_out_in(number: u16, outage: &OutSpan) -> bool
     ensures { result ≡ is_out_in number outage.now }
 {
     outage.number == number && outage.end.is_none()
 }
 
-pub(crate) fn is_out(number: u16, outages: &[Outage]) -> bool
+pub(crate) fn is_out(number: u16, outages: &[OutSpan]) -> bool
     ensures { result ≡ is_out number outages.now }
 {
     outages.iter().any(|outage| is_out_in(number, outage))
 }
 
 /// The outage, ended at the moment if it is one of the module that lasts.
-fn ended(number: u16, moment: Tick, outage: &Outage) -> Outage
+fn ended(number: u16, moment: Tick, outage: &OutSpan) -> OutSpan
     ensures { result ≡ ended number moment outage.now }
 {
     if is_out_in(number, outage) {
-        Outage {
+        OutSpan {
             number,
             begin: outage.begin,
             end: Some(moment),
@@ -45,8 +45,8 @@ pub(crate) fn all_ended(
     alloc: Global,
     number: u16,
     moment: Tick,
-    outages: &[Outage],
-) -> Result<Vec<Outage>, AllocError>
+    outages: &[OutSpan],
+) -> Result<Vec<OutSpan>, AllocError>
     ensures { IfOk result (λ v. v.items ≡ map (ended number moment) outages.now) }
 {
     outages

@@ -7,7 +7,7 @@ use tp_machine_text::MachineFault;
 
 /// What is too long.
 #[derive(Clone, Copy, Debug, PartialEq, Eq)]
-pub enum Long {
+pub enum LongText {
     /// The machine text has more than 1,048,576 bytes.
     MachineText,
     /// The log has more than 1,073,741,824 bytes.
@@ -16,7 +16,7 @@ pub enum Long {
 
 /// How a run ended, with the number and the line that tell it.
 #[derive(Clone, Copy, Debug, PartialEq, Eq)]
-pub enum Status {
+pub enum ChartStatus {
     /// The picture was written.
     Done,
     /// Memory ran out. It says nothing of the input.
@@ -32,31 +32,31 @@ pub enum Status {
     /// The sink failed.
     Sink,
     /// The machine text or the log is longer than it may be.
-    TooLong(Long),
+    TooLong(LongText),
     /// The line of this number, counted from 1, is the first that is off the grammar of logs.
     Line(u64),
 }
 
-impl Status {
+impl ChartStatus {
     /// The number that the process ends with.
     pub fn number(self) -> u8
         ensures { result ≡ status_number self }
     {
         match self {
-            Status::Done => 0,
-            Status::Memory => 1,
-            Status::Usage => 2,
-            Status::Machine(_) => 3,
-            Status::Shelf => 4,
-            Status::Source => 5,
-            Status::Sink => 6,
-            Status::TooLong(_) => 7,
-            Status::Line(_) => 8,
+            ChartStatus::Done => 0,
+            ChartStatus::Memory => 1,
+            ChartStatus::Usage => 2,
+            ChartStatus::Machine(_) => 3,
+            ChartStatus::Shelf => 4,
+            ChartStatus::Source => 5,
+            ChartStatus::Sink => 6,
+            ChartStatus::TooLong(_) => 7,
+            ChartStatus::Line(_) => 8,
         }
     }
 }
 
-impl fmt::Display for Status {
+impl fmt::Display for ChartStatus {
     ghost use Rattle.std.specs.Prelude.{Some};
     ghost use Rattle.tp_chart.specs.Statuses.{status_line};
 
@@ -64,17 +64,19 @@ impl fmt::Display for Status {
 
     fn fmt<W: fmt::Write>(&self, f: &mut fmt::Formatter<W>) -> fmt::Result {
         match *self {
-            Status::Done => Ok(()),
-            Status::Memory => f.write_str("chart: out of memory"),
-            Status::Usage => f.write_str("chart: usage: chart [--sheets] [--at T] MACHINE"),
-            Status::Machine(MachineFault::Memory) => f.write_str("chart: machine: out of memory"),
-            Status::Machine(MachineFault::NotToml) => f.write_str("chart: machine: not TOML"),
-            Status::Machine(MachineFault::Rule(n)) => write!(f, "chart: machine: rule {n}"),
-            Status::Shelf => f.write_str("chart: cannot read the machine text"),
-            Status::Source => f.write_str("chart: cannot read the input"),
-            Status::Sink => f.write_str("chart: cannot write the output"),
-            Status::TooLong(_) => f.write_str("chart: input too long"),
-            Status::Line(n) => write!(f, "chart: line {n}: not a line of a log"),
+            ChartStatus::Done => Ok(()),
+            ChartStatus::Memory => f.write_str("chart: out of memory"),
+            ChartStatus::Usage => f.write_str("chart: usage: chart [--sheets] [--at T] MACHINE"),
+            ChartStatus::Machine(MachineFault::Memory) => f.write_str(
+                "chart: machine: out of memory",
+            ),
+            ChartStatus::Machine(MachineFault::NotToml) => f.write_str("chart: machine: not TOML"),
+            ChartStatus::Machine(MachineFault::Rule(n)) => write!(f, "chart: machine: rule {n}"),
+            ChartStatus::Shelf => f.write_str("chart: cannot read the machine text"),
+            ChartStatus::Source => f.write_str("chart: cannot read the input"),
+            ChartStatus::Sink => f.write_str("chart: cannot write the output"),
+            ChartStatus::TooLong(_) => f.write_str("chart: input too long"),
+            ChartStatus::Line(n) => write!(f, "chart: line {n}: not a line of a log"),
         }
     }
 }

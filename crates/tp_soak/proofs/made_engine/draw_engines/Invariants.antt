@@ -1,6 +1,6 @@
 use Rattle.std.proofs.Common.{◌≡◌, fold, length}
 use Rattle.tp_soak.specs.Engines.{draw_engines, with_engine}
-use Rattle.tp_soak.proofs.engine.draw_engines.Given as goal
+use Rattle.tp_soak.proofs.made_engine.draw_engines.Given as goal
 
 -- the engines that are still to be drawn complete those of the case
 abbrev pub invariant-engines : goal.invariant-engines

@@ -4,7 +4,7 @@ use crate::Flaw;
 
 /// Why a log is not accepted.
 #[derive(Clone, Copy, Debug, PartialEq, Eq)]
-pub enum Cause {
+pub enum Rejection {
     Memory,
     Source,
     /// The line of this number, counted from 1, has more than 4,194,304 bytes without its LF.

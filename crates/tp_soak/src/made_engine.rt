@@ -9,7 +9,7 @@ use tp_base::Memory;
 
 /// An engine: its number, counted from 1, and the least ticks that its print takes.
 #[derive(Clone, Copy, Debug, PartialEq, Eq)]
-pub struct Engine {
+pub struct MadeEngine {
     pub number: u32,
     pub least: u32,
 }
@@ -17,7 +17,7 @@ pub struct Engine {
 const NUMBERS: [u32; 4] = [1, 2, 3, 4];
 
 /// Draws 2 to 4 engines.
-pub(crate) fn draw_engines(alloc: Global, draws: &mut Draws) -> Result<Vec<Engine>, Memory>
+pub(crate) fn draw_engines(alloc: Global, draws: &mut Draws) -> Result<Vec<MadeEngine>, Memory>
     ensures engines { IfOk result (λ engines.
         engines.items ≡ (draw_engines draws.old.state).engines) }
     ensures state { IfOk result (λ _. draws.new.state ≡ (draw_engines draws.old.state).state) }
@@ -27,7 +27,7 @@ pub(crate) fn draw_engines(alloc: Global, draws: &mut Draws) -> Result<Vec<Engin
     let mut rest = &NUMBERS[..count as usize];
     'engines: while let [number, others @ ..] = rest {
         let least = 4 + draws.draw(8);
-        engines.push(Engine {
+        engines.push(MadeEngine {
             number: *number,
             least,
         })?;

@@ -37,7 +37,7 @@ pub(crate) fn reason_of(wrong: Wrong) -> Reason
 /// The number of an item, counted from 0, and why it is wrong. It is the number of all items where another one is due behind
 /// them.
 #[derive(Clone, Copy, PartialEq, Eq, Debug)]
-pub struct Stop {
+pub struct WrongItem {
     pub item: usize,
     pub reason: Reason,
 }
