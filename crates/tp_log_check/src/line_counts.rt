@@ -6,7 +6,7 @@ ghost use Rattle.tp_log_check.specs.Heights.{height, heights};
 use tp_log::Item;
 
 /// How many lines an item has: a tree has one for each row and each node.
-pub fn height(item: &Item) -> u64
+pub(crate) fn height(item: &Item) -> u64
     requires { height item.now < 2 ^ 64 }
     ensures { result ≡ height item.now }
 {
@@ -18,7 +18,7 @@ pub fn height(item: &Item) -> u64
 
 /// How many lines the items have.
 #[tactic(auto, using(crate::proofs::LineCountFacts::heights_cons))]
-pub fn heights(items: &[Item]) -> u64
+pub(crate) fn heights(items: &[Item]) -> u64
     requires { heights items.now < 2 ^ 64 }
     ensures { result ≡ heights items.now }
 {

@@ -17,7 +17,7 @@ use tp_outside::Source;
 use tp_stream::{Limits, Stop, stream};
 
 /// The most bytes of a line, without its LF, and the most lines: each has a byte.
-pub const LOG_LIMITS: Limits = Limits {
+const LOG_LIMITS: Limits = Limits {
     bytes: 4_194_304,
     lines: 1_000_000_000_000_000_001,
 };

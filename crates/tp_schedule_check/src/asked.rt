@@ -6,7 +6,7 @@ ghost use Rattle.tp_schedule.specs.Routes.{AreAllowed, IsRoute, fresh, is_act_al
 ghost use Rattle.tp_schedule_check.specs.Asked.{AnswersBy, Arrives, DoesLead, IsOf, LeadsFrom};
 
 use crate::plans::{are_same_acts, plan_of};
-use crate::walk;
+use crate::timed::walk;
 use tp_machine::{ActId, Machine, Outs, State, allowed};
 use tp_schedule::{Ask, Kind, Origin, Plan, Schedule, SheetId, is_goal, is_start, new_sheet};
 

@@ -42,7 +42,7 @@ pub fn is_exempt(exempt: Option<SheetId>, plan: &Plan) -> bool
 }
 
 /// Whether the point is the start or the end of a released action, or any point of a front.
-pub fn is_fixed(plan: &Plan, at: u32) -> bool
+pub(crate) fn is_fixed(plan: &Plan, at: u32) -> bool
     ensures { result ≡ is_fixed plan.now at }
 {
     let begun = 0 < plan.released && at <= plan.released;

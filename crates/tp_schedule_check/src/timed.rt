@@ -27,7 +27,7 @@ fn step_by(machine: &Machine, want: &Sheet, act: ActId, state: State) -> Option<
 }
 
 /// Where the actions lead from the state, if they can be taken one after another.
-pub fn walk(machine: &Machine, want: &Sheet, acts: &[ActId], state: State) -> Option<State>
+pub(crate) fn walk(machine: &Machine, want: &Sheet, acts: &[ActId], state: State) -> Option<State>
     ensures { result ≡ walk machine.now want.now acts.now state }
 {
     if let [act, later @ ..] = acts {

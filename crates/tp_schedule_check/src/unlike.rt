@@ -4,8 +4,8 @@ ghost use Rattle.tp_schedule.specs.Answers.{unmoved};
 ghost use Rattle.tp_schedule.specs.Plans.{IsFormed};
 ghost use Rattle.tp_schedule_check.specs.Alike.{AreAlike, IsAlike, IsUnfixed, IsSameCopy, IsSameCourse, IsUnlike, IsUnlikePlan, KeepsPoints, others};
 
+use crate::early::{is_exempt, is_fixed};
 use crate::plans::are_same_acts;
-use crate::{is_exempt, is_fixed};
 use tp_base::Tick;
 use tp_schedule::{Plan, Schedule, SheetId};
 

@@ -15,5 +15,4 @@ mod summary;
 
 pub use case::{Case, soak_case};
 pub use case_run::soak;
-pub use made_engine::MadeEngine;
 pub use record_counts::RecordCounts;

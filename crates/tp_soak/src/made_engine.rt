@@ -9,7 +9,7 @@ use tp_base::Memory;
 
 /// An engine: its number, counted from 1, and the least ticks that its print takes.
 #[derive(Clone, Copy, Debug, PartialEq, Eq)]
-pub struct MadeEngine {
+pub(crate) struct MadeEngine {
     pub number: u32,
     pub least: u32,
 }
