@@ -87,7 +87,7 @@ fn put_first<'t>(trees: &'t [BoundTree], out: &mut Vec<u8>) -> Result<&'t [Bound
 
 /// Appends the line of the record, made in `line`, and the lines of a tree where one stands behind it. Tells the trees that are
 /// left.
-fn put_record<'t>(
+fn put_with_tree<'t>(
     before: bool,
     rec: &Record,
     more: &[Record],
@@ -128,7 +128,7 @@ fn put_items(records: &[Record], trees: &[BoundTree], out: &mut Vec<u8>) -> Resu
     let mut of_plan = false;
     let mut line = Vec::new(*out.allocator());
     'records: while let Some((rec, more)) = first_record(rest) {
-        left = put_record(of_plan, rec, more, left, &mut line, out)?;
+        left = put_with_tree(of_plan, rec, more, left, &mut line, out)?;
         of_plan = is_of_plan(of_plan, rec);
         rest = more;
     }

@@ -20,9 +20,9 @@ records-preserved c =
     let of_plan = c.is_of_plan-of_plan.ensures in
     let left = c.in_ok-left.ensures.left in
     let grown = c.records.invariant.grows in
-    let grows = c.put_record.ensures.grows in
+    let grows = c.put_with_tree.ensures.grows in
     record {
-      told = told-next before before' told rest more trees trees' is of_plan left c.records.out.items c.put_record.new.out.items _ c.in_ok-left.ensures.told c.records.invariant.told;
+      told = told-next before before' told rest more trees trees' is of_plan left c.records.out.items c.put_with_tree.new.out.items _ c.in_ok-left.ensures.told c.records.invariant.told;
       spelled = λ later. c.records.invariant.spelled (spelled-next before before' told rest more trees trees' is of_plan left (All-head IsRecord told more lines) c.in_ok-left.ensures.spelled later);
       lines = All-tail IsRecord told more lines;
       printable = subst (All IsPrintable) (sym left) (All-drop IsPrintable _ trees c.records.invariant.printable);

@@ -4,7 +4,7 @@ use Rattle.std.specs.Prelude.{OnOk, if◌then◌else◌}
 use Rattle.tp_log.specs.Logs.{IsItem}
 use Rattle.tp_log.specs.declared.item.Item.TheVariants as item
 use Rattle.tp_run_laws.specs.Runs.{trees_behind}
-use Rattle.tp_session.proofs.turn_text.put_record.Goals as goal
+use Rattle.tp_session.proofs.turn_text.put_with_tree.Goals as goal
 
 pub returns-then-takes_tree-clause-spelled : goal.returns-then-takes_tree-clause-spelled
 returns-then-takes_tree-clause-spelled c =
