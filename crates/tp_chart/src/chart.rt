@@ -31,11 +31,11 @@ pub fn chart_main<H: Shelf, S: Source, K: Sink>(
 
     // The machine text is too long, or is none.
     ensures long_text { result ≡ ChartStatus.TooLong LongText.MachineText
-        → NamesLongText (map string_bytes words.now) (H.told shelf.old) }
+        → NamesLongText (map string_bytes words.now) (H.known shelf.old) }
     ensures not_toml { result ≡ ChartStatus.Machine MachineFault.NotToml
-        → NamesText (map string_bytes words.now) (H.told shelf.old) IsNotToml }
+        → NamesText (map string_bytes words.now) (H.known shelf.old) IsNotToml }
     ensures rule { (n : ℕ) → result ≡ ChartStatus.Machine (MachineFault.Rule n)
-        → NamesText (map string_bytes words.now) (H.told shelf.old) (IsBrokenAt n) }
+        → NamesText (map string_bytes words.now) (H.known shelf.old) (IsBrokenAt n) }
     ensures no_memory { result ≢ ChartStatus.Machine MachineFault.Memory }
 
     // The log is too long, or a line of it is off the grammar.
@@ -55,7 +55,7 @@ pub fn chart_main<H: Shelf, S: Source, K: Sink>(
 
     // The bars of the picture are those of the log's schedule.
     ensures done { result ≡ ChartStatus.Done
-        → IsCharted (map string_bytes words.now) (H.told shelf.old)
+        → IsCharted (map string_bytes words.now) (H.known shelf.old)
         (S.left source.old) (K.taken sink.old) (K.taken sink.new) }
 {
     let request = match read_words(alloc, words) {

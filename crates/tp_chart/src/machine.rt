@@ -20,13 +20,13 @@ pub(crate) fn find_machine<H: Shelf>(
     name: &str,
 ) -> Result<Machine, ChartStatus>
     ensures found { IfOk result (λ machine.
-        IsShelved (H.told shelf.old) name.now (λ text. IsMachineText text machine)) }
+        IsShelved (H.known shelf.old) name.now (λ text. IsMachineText text machine)) }
     ensures too_long { IfErr result (λ s. s ≡ ChartStatus.TooLong LongText.MachineText
-        → IsLongText (H.told shelf.old) name.now) }
+        → IsLongText (H.known shelf.old) name.now) }
     ensures not_toml { IfErr result (λ s. s ≡ ChartStatus.Machine MachineFault.NotToml
-        → IsShelved (H.told shelf.old) name.now IsNotToml) }
+        → IsShelved (H.known shelf.old) name.now IsNotToml) }
     ensures rule { IfErr result (λ s. (n : ℕ) → s ≡ ChartStatus.Machine (MachineFault.Rule n)
-        → IsShelved (H.told shelf.old) name.now (IsBrokenAt n)) }
+        → IsShelved (H.known shelf.old) name.now (IsBrokenAt n)) }
     ensures no_memory { IfErr result (λ s. s ≢ ChartStatus.Machine MachineFault.Memory) }
     ensures shelf { IfErr result (λ s. s ≡ ChartStatus.Shelf
         → Rises (H.faults shelf.old) (H.faults shelf.new)) }

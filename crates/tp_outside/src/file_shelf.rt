@@ -82,7 +82,7 @@ impl<F: Read + Seek> OpenedFile<F> {
 }
 
 impl<R: Files> Shelf for FileShelf<R> {
-    ghost told = { λ _. None };
+    ghost known = { λ _. None };
 
     ghost faults = { λ s. s.faults };
 

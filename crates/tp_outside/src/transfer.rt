@@ -50,20 +50,20 @@ pub fn read_file<H: Shelf>(
     limit: usize,
 ) -> Result<Vec<u8>, ReadError>
     requires { limit < 2 ^ 60 }
-    ensures bytes { IfOk result (λ text. IfSome (H.told shelf.old)
+    ensures bytes { IfOk result (λ text. IfSome (H.known shelf.old)
         (λ files. file_at files name.now ≡ Some text.items)) }
     ensures fits { IfOk result (λ text. length text.items ≤ limit) }
-    ensures too_long { IsErrOf result ReadError.TooLong → IfSome (H.told shelf.old) (λ files.
+    ensures too_long { IsErrOf result ReadError.TooLong → IfSome (H.known shelf.old) (λ files.
         IsSomeAnd (file_at files name.now) (λ bytes. limit < length bytes)) }
     ensures failed { IsErrOf result ReadError.Failed
         → Rises (H.faults shelf.old) (H.faults shelf.new) }
-    ensures amiss { IsErrOf result ReadError.Failed → IfSome (H.told shelf.old) (λ files.
+    ensures amiss { IsErrOf result ReadError.Failed → IfSome (H.known shelf.old) (λ files.
         IsSome (file_at files name.now) → Rises (H.amiss shelf.old) (H.amiss shelf.new)) }
-    ensures not_amiss { IfSome (H.told shelf.old)
+    ensures not_amiss { IfSome (H.known shelf.old)
         (λ _. ¬ IsErrOf result ReadError.Failed → H.amiss shelf.new ≡ H.amiss shelf.old) }
-    ensures absent { IfSome (H.told shelf.old) (λ files. file_at files name.now ≡ None →
+    ensures absent { IfSome (H.known shelf.old) (λ files. file_at files name.now ≡ None →
         IsErrOf result ReadError.Failed × (H.amiss shelf.new ≡ H.amiss shelf.old)) }
-    ensures told { H.told shelf.new ≡ H.told shelf.old }
+    ensures told { H.known shelf.new ≡ H.known shelf.old }
     ensures counted { IsCounted (H.faults shelf.old) (H.faults shelf.new) }
 {
     let mut text = Vec::new(alloc);

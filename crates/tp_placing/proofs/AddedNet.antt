@@ -45,10 +45,10 @@ use Rattle.tp_placing.proofs.LoadTable.{length-table-of, ticks-by-number}
 use Rattle.tp_placing.proofs.LoadedTicks.{timed, times}
 
 module _ (machine : Machine) (now : ℕ) (plans : List Plan) (p : Plan) (can : CanLoad machine now (with_plan plans p)) (before : IsLoadable machine now (λ _. false) plans)
-    (n : Net) (lines : List (List ℕ)) (held : List Held) (firsts : List PointId) (causes : List EdgeCause) (old : IsLoaded machine now plans n lines held firsts causes) (last : PointId) (at-last : last.0 ≡ point_count plans)
+    (n : Net) (timelines : List (List ℕ)) (held : List Held) (firsts : List PointId) (causes : List EdgeCause) (old : IsLoaded machine now plans n timelines held firsts causes) (last : PointId) (at-last : last.0 ≡ point_count plans)
     (m : Net) (wider : m ≡ with_bounds (lows_of (now + machine.lead) p) (caps_of (now + machine.window) p) n)
-    (o : Option PointId) (ends : IsLineEnd (with_plan plans p) (firsts ++ last ∷ []) (length plans) p o) (lines' : List (List ℕ)) (put-edges : List Edge) (more : List EdgeCause)
-    (put : HasPut machine (with_plan plans p) (slot_order machine plans) (held ++ held_from machine last.0 p.acts) lines' put-edges (causes ++ more)
+    (o : Option PointId) (ends : IsLineEnd (with_plan plans p) (firsts ++ last ∷ []) (length plans) p o) (timelines' : List (List ℕ)) (put-edges : List Edge) (more : List EdgeCause)
+    (put : HasPut machine (with_plan plans p) (slot_order machine plans) (held ++ held_from machine last.0 p.acts) timelines' put-edges (causes ++ more)
     (map (slot_by (table_of (with_plan plans p))) (drop (length held) (held ++ held_from machine last.0 p.acts)))) where
   abbrev all : List Plan
   all = with_plan plans p
@@ -69,10 +69,10 @@ module _ (machine : Machine) (now : ℕ) (plans : List Plan) (p : Plan) (can : C
   plain = plain-more causes more old.plain
 
   first : last.0 ≡ length (table_of plans)
-  first = first-is machine now plans p can before n lines held firsts causes old last at-last
+  first = first-is machine now plans p can before n timelines held firsts causes old last at-last
 
   own : (gs : List Gap) × IsLineBefore plans p gs × AreHops all new-causes (own_edges machine last p o) (acts_hops machine p.sheet 0 p.acts ++ map (hop line) gs)
-  own = own-hops machine plans p (firsts ++ last ∷ []) new-causes last o plain (at-firsts machine now plans p can before n lines held firsts causes old last at-last) first ends
+  own = own-hops machine plans p (firsts ++ last ∷ []) new-causes last o plain (at-firsts machine now plans p can before n timelines held firsts causes old last at-last) first ends
 
   abbrev added : List Hop
   added = acts_hops machine p.sheet 0 p.acts ++ (map (hop line) own.0 ++ put_hops machine put.puts order)
@@ -87,7 +87,7 @@ module _ (machine : Machine) (now : ℕ) (plans : List Plan) (p : Plan) (can : C
   edges-known = hops.can
 
   pub edges-in-net : All (IsKnown (length m.lows)) es
-  edges-in-net = subst (λ k. All (IsKnown k) es) (sym (points-all machine now plans p can before n lines held firsts causes old last at-last m wider)) hops.can
+  edges-in-net = subst (λ k. All (IsKnown k) es) (sym (points-all machine now plans p can before n timelines held firsts causes old last at-last m wider)) hops.can
 
   edges-of : All (IsEdgeOf table) es
   edges-of = All-weaker (IsKnown (length table)) (IsEdgeOf table) (λ e k. (k.from, k.to)) es hops.can
@@ -128,19 +128,19 @@ module _ (machine : Machine) (now : ℕ) (plans : List Plan) (p : Plan) (can : C
     pub solution : IsSolution (with_edges m es) x
     solution =
         let constraints = (gaps_law machine now (λ _. false) all t can.loadable).0 (times machine now all can) in
-        let points = points-all machine now plans p can before n lines held firsts causes old last at-last m wider in
+        let points = points-all machine now plans p can before n timelines held firsts causes old last at-last m wider in
         record {
           above_low = λ i below. (
               let s = get-there table i (omega arith) in
               let bounds = constraints.0 s.0 (All-contains (IsPoint all 0) table s.0 spots.only (contains-get table i s.0 s.1)) in
-              let low = ap (λ ls. slice_index ls i) (lows-all machine now plans p can before n lines held firsts causes old last at-last m wider) ∙ index-map (low_at (now + machine.lead) (λ _. false) all no_own) table i s.0 s.1 in
+              let low = ap (λ ls. slice_index ls i) (lows-all machine now plans p can before n timelines held firsts causes old last at-last m wider) ∙ index-map (low_at (now + machine.lead) (λ _. false) all no_own) table i s.0 s.1 in
               let tick = ap (λ c. t (spot_in c)) s.1 in
               let b = bounds.0 in
               omega arith);
           below_cap = λ i below. (
               let s = get-there table i (omega arith) in
               let bounds = constraints.0 s.0 (All-contains (IsPoint all 0) table s.0 spots.only (contains-get table i s.0 s.1)) in
-              let cap = ap (λ ls. slice_index ls i) (caps-all machine now plans p can before n lines held firsts causes old last at-last m wider) ∙ index-map (cap_at (now + machine.window) all) table i s.0 s.1 in
+              let cap = ap (λ ls. slice_index ls i) (caps-all machine now plans p can before n timelines held firsts causes old last at-last m wider) ∙ index-map (cap_at (now + machine.window) all) table i s.0 s.1 in
               let tick = ap (λ c. t (spot_in c)) s.1 in
               let b = bounds.1 in
               omega arith);
@@ -159,7 +159,7 @@ module _ (machine : Machine) (now : ℕ) (plans : List Plan) (p : Plan) (can : C
 
     same : (r : ℕ) → with_puts put.puts order r ≡ slot_order machine all r
     same =
-        let behind = new-held machine now plans p can before n lines held firsts causes old last at-last in
+        let behind = new-held machine now plans p can before n timelines held firsts causes old last at-last in
         let slots = put.holds ∙ ap (map (slot_by table)) behind ∙ held-slots machine table last.0 p.sheet 0 p.acts (stands-behind plans p last.0 first) in
         plan_order machine now plans p put.puts can.loadable slots put.within put-kept
 
@@ -179,23 +179,23 @@ module _ (machine : Machine) (now : ℕ) (plans : List Plan) (p : Plan) (can : C
         λ k d within. record { tag = tags k d within; is_hop = right k d within }
 
     pub loaded : (net : Net) → net ≡ with_edges m es → HasLeast net → length net.edges ≤ loaded_edges → length (held ++ held_from machine last.0 p.acts) ≤ loaded_holds
-        → total lines' ≡ length (held ++ held_from machine last.0 p.acts)
-        → IsLoaded machine now all net lines' (held ++ held_from machine last.0 p.acts) (firsts ++ last ∷ []) new-causes
+        → total timelines' ≡ length (held ++ held_from machine last.0 p.acts)
+        → IsLoaded machine now all net timelines' (held ++ held_from machine last.0 p.acts) (firsts ++ last ∷ []) new-causes
     loaded net is least few few-holds all-held =
         let edges : net.edges ≡ n.edges ++ es = ap (λ (k : Net). k.edges) is ∙ ap (λ ds. ds ++ es) old-edges in
         record {
           net = plan_net machine now plans p put.puts own.0 n net es before can.loadable old.net put.within same own.1
-              (ap (λ (k : Net). k.lows) is ∙ lows-all machine now plans p can before n lines held firsts causes old last at-last m wider)
-              (ap (λ (k : Net). k.caps) is ∙ caps-all machine now plans p can before n lines held firsts causes old last at-last m wider) edges edges-of gaps;
+              (ap (λ (k : Net). k.lows) is ∙ lows-all machine now plans p can before n timelines held firsts causes old last at-last m wider)
+              (ap (λ (k : Net). k.caps) is ∙ caps-all machine now plans p can before n timelines held firsts causes old last at-last m wider) edges edges-of gaps;
           says = subst (SayGaps machine all) (sym edges) (plan_says machine now plans p put.puts own.0 n.edges es before can.loadable old.says put.within same own.1 edges-of gaps);
           solved = least;
           hops = λ ask. named ask net.edges edges;
           safe = subst (All (IsSafe 0)) (sym edges) (All-append (IsSafe 0) n.edges es old.safe hops.safe);
           plain = plain;
-          orders = λ r below. subst (AreSlots table (held ++ held_from machine last.0 p.acts) (order_on lines' r)) (same r) (put.orders r below);
+          orders = λ r below. subst (AreSlots table (held ++ held_from machine last.0 p.acts) (order_on timelines' r)) (same r) (put.orders r below);
           few_edges = few;
           few_holds = few-holds;
           all_held = all-held;
-          small = small machine now plans p can before n lines held firsts causes old last at-last;
-          at_firsts = at-firsts machine now plans p can before n lines held firsts causes old last at-last;
+          small = small machine now plans p can before n timelines held firsts causes old last at-last;
+          at_firsts = at-firsts machine now plans p can before n timelines held firsts causes old last at-last;
         }

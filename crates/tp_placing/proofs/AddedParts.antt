@@ -54,7 +54,7 @@ slot-ids table held (id ∷ ids) [] are = absurd are
 slot-ids table held (id ∷ ids) (s ∷ slots) are = All-cons (λ i. i < length held) id ids (slice_get_within held id are.0.hold are.0.at) (slot-ids table held ids slots are.1)
 
 module _ (machine : Machine) (now : ℕ) (plans : List Plan) (p : Plan) (can : CanLoad machine now (with_plan plans p)) (before : IsLoadable machine now (λ _. false) plans)
-    (n : Net) (lines : List (List ℕ)) (held : List Held) (firsts : List PointId) (causes : List EdgeCause) (old : IsLoaded machine now plans n lines held firsts causes) (last : PointId) (at-last : last.0 ≡ point_count plans) where
+    (n : Net) (timelines : List (List ℕ)) (held : List Held) (firsts : List PointId) (causes : List EdgeCause) (old : IsLoaded machine now plans n timelines held firsts causes) (last : PointId) (at-last : last.0 ≡ point_count plans) where
   abbrev all : List Plan
   all = with_plan plans p
 
@@ -117,13 +117,13 @@ module _ (machine : Machine) (now : ℕ) (plans : List Plan) (p : Plan) (can : C
   pub small : All (λ h. HasSmallOffsets h.rule) (held ++ new)
   small = All-append (λ (h : Held). HasSmallOffsets h.rule) held new old.small (All-weaker (λ (h : Held). IsRuleOf (length machine.resources) h.rule) (λ (h : Held). HasSmallOffsets h.rule) (λ h r. r.1) new new-ruled)
 
-  pub orders-before : (r : ℕ) → r < length machine.resources → AreSlots (table_of all) (held ++ new) (order_on lines r) (slot_order machine plans r)
+  pub orders-before : (r : ℕ) → r < length machine.resources → AreSlots (table_of all) (held ++ new) (order_on timelines r) (slot_order machine plans r)
   orders-before r below =
-      subst (λ table. AreSlots table (held ++ new) (order_on lines r) (slot_order machine plans r)) (sym (table-more plans p))
-      (slots-grown (table_of plans) (points_from p.sheet 0 (length p.acts)) held new (order_on lines r) (slot_order machine plans r) (old.orders r below))
+      subst (λ table. AreSlots table (held ++ new) (order_on timelines r) (slot_order machine plans r)) (sym (table-more plans p))
+      (slots-grown (table_of plans) (points_from p.sheet 0 (length p.acts)) held new (order_on timelines r) (slot_order machine plans r) (old.orders r below))
 
-  pub ids-before : (r : ℕ) → r < length machine.resources → AreIds (held ++ new) (order_on lines r)
-  ids-before r below = slot-ids (table_of all) (held ++ new) (order_on lines r) (slot_order machine plans r) (orders-before r below)
+  pub ids-before : (r : ℕ) → r < length machine.resources → AreIds (held ++ new) (order_on timelines r)
+  ids-before r below = slot-ids (table_of all) (held ++ new) (order_on timelines r) (slot_order machine plans r) (orders-before r below)
 
   -- the bounds with the plan's
   pub lows-all : (m : Net) → m ≡ with_bounds (lows_of (now + machine.lead) p) (caps_of (now + machine.window) p) n → m.lows ≡ map (low_at (now + machine.lead) (λ _. false) all no_own) (table_of all)

@@ -20,7 +20,7 @@ use Rattle.tp_placing.proofs.LoadHops.{acts-count}
 use Rattle.tp_placing.proofs.LoadTable.{length-table-of}
 use Rattle.tp_placing.proofs.TableFacts.{begins-at, length-firsts}
 
-module _ (machine : Machine) (now : ℕ) (all : List Plan) (n : Net) (lines : List (List ℕ)) (held : List Held) (firsts : List PointId) (last : ℕ) (causes : List EdgeCause) (b : IsBehind machine now all n lines held firsts last causes) where
+module _ (machine : Machine) (now : ℕ) (all : List Plan) (n : Net) (timelines : List (List ℕ)) (held : List Held) (firsts : List PointId) (last : ℕ) (causes : List EdgeCause) (b : IsBehind machine now all n timelines held firsts last causes) where
   pub as-many : length firsts ≡ length b.plans
   as-many = length-firsts 0 b.plans firsts b.loaded.at_firsts
 

@@ -18,15 +18,15 @@ use Rattle.tp_placing.specs.LoadedBoard.{AreFewSteps, choice_steps, newest_place
 use Rattle.tp_placing.proofs.PastFacts.{marks-more}
 
 -- the fields after a step: the network and the orders keep their numbers, and holds and steps grow within their room
-pub board-step : (pasts max_marks max_points max_edges edge_capacity : ℕ) (lines : Orders) (held : Vec Held Global) (begins : Vec Begin Global) (plans : Vec Plan Global) (firsts : Vec PointId Global) (steps : Vec Step Global) (marks : Vec BoardMark Global) (made : Vec Edge Global) (made_for : MadeFor)
-    → IsBoard pasts max_marks max_points max_edges edge_capacity lines held begins plans firsts steps marks made made_for
-    → (pasts' max_marks' max_points' max_edges' : ℕ) (lines' : Orders) (held' : Vec Held Global) (steps' : Vec Step Global) (made' : Vec Edge Global)
+pub board-step : (pasts max_marks max_points max_edges edge_capacity : ℕ) (timelines : Orders) (held : Vec Held Global) (begins : Vec Begin Global) (plans : Vec Plan Global) (firsts : Vec PointId Global) (steps : Vec Step Global) (marks : Vec BoardMark Global) (made : Vec Edge Global) (made_for : MadeFor)
+    → IsBoard pasts max_marks max_points max_edges edge_capacity timelines held begins plans firsts steps marks made made_for
+    → (pasts' max_marks' max_points' max_edges' : ℕ) (timelines' : Orders) (held' : Vec Held Global) (steps' : Vec Step Global) (made' : Vec Edge Global)
     → pasts' ≡ pasts → max_marks' ≡ max_marks → max_points' ≡ max_points → max_edges' ≡ max_edges
-    → length lines'.past ≡ length lines.past → lines'.max_marks ≡ lines.max_marks → length lines'.orders ≡ length lines.orders → lines'.hold_capacity ≡ lines.hold_capacity
+    → length timelines'.past ≡ length timelines.past → timelines'.max_marks ≡ timelines.max_marks → length timelines'.orders ≡ length timelines.orders → timelines'.hold_capacity ≡ timelines.hold_capacity
     → length held.items ≤ length held'.items → length held'.items ≤ most_holds → vec_capacity held ≤ vec_capacity held'
     → length steps.items ≤ length steps'.items → length steps'.items ≤ most_steps → vec_capacity steps ≤ vec_capacity steps' → vec_capacity made ≤ vec_capacity made'
-    → IsBoard pasts' max_marks' max_points' max_edges' edge_capacity lines' held' begins plans firsts steps' marks made' made_for
-board-step pasts max_marks max_points max_edges edge_capacity lines held begins plans firsts steps marks made made_for b pasts' max_marks' max_points' max_edges' lines' held' steps' made' p m pr er lp lm lo lh h1 h2 h3 s1 s2 s3 e3 =
+    → IsBoard pasts' max_marks' max_points' max_edges' edge_capacity timelines' held' begins plans firsts steps' marks made' made_for
+board-step pasts max_marks max_points max_edges edge_capacity timelines held begins plans firsts steps marks made made_for b pasts' max_marks' max_points' max_edges' timelines' held' steps' made' p m pr er lp lm lo lh h1 h2 h3 s1 s2 s3 e3 =
     let i = b.marked in let r = b.capacity in
     let i1 = i.spare in let i2 = i.line_marks in let i3 = i.line_capacity in let i4 = i.board_marks in let i5 = i.mark_space in
     let r1 = r.points in let r2 = r.edges in let r2a = r.all_edges in let r3 = r.resources in let r4 = r.holds in let r6 = r.held_space in let r8 = r.steps_space in let r9 = r.edge_space in
@@ -57,10 +57,10 @@ board-step pasts max_marks max_points max_edges edge_capacity lines held begins 
     }
 
 -- the fields with other first points
-pub board-firsts : (pasts max_marks max_points max_edges edge_capacity : ℕ) (lines : Orders) (held : Vec Held Global) (begins : Vec Begin Global) (plans : Vec Plan Global) (firsts firsts' : Vec PointId Global) (steps : Vec Step Global) (marks : Vec BoardMark Global) (made : Vec Edge Global) (made_for : MadeFor)
-    → IsBoard pasts max_marks max_points max_edges edge_capacity lines held begins plans firsts steps marks made made_for → vec_capacity firsts ≤ vec_capacity firsts'
-    → IsBoard pasts max_marks max_points max_edges edge_capacity lines held begins plans firsts' steps marks made made_for
-board-firsts pasts max_marks max_points max_edges edge_capacity lines held begins plans firsts firsts' steps marks made made_for b wide =
+pub board-firsts : (pasts max_marks max_points max_edges edge_capacity : ℕ) (timelines : Orders) (held : Vec Held Global) (begins : Vec Begin Global) (plans : Vec Plan Global) (firsts firsts' : Vec PointId Global) (steps : Vec Step Global) (marks : Vec BoardMark Global) (made : Vec Edge Global) (made_for : MadeFor)
+    → IsBoard pasts max_marks max_points max_edges edge_capacity timelines held begins plans firsts steps marks made made_for → vec_capacity firsts ≤ vec_capacity firsts'
+    → IsBoard pasts max_marks max_points max_edges edge_capacity timelines held begins plans firsts' steps marks made made_for
+board-firsts pasts max_marks max_points max_edges edge_capacity timelines held begins plans firsts firsts' steps marks made made_for b wide =
     let r = b.capacity in
     let space = r.first_space in
     record {

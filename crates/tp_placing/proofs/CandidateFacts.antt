@@ -85,21 +85,21 @@ module _ {N : Type 0} {reading : Reading N} {b : BoardValue N} {m : Machine} {ho
   still n made e same past = (k.ask, stands-still reading b n made None m k.ask k.stands same past (subst (Keeps (length b.steps) b.causes) (sym e) (keeps-here k)))
 
   -- ---- where it is placed
-  module _ (n : N) (made : List EdgeCause) (lines : Orders) (held : List Held) (steps : List Step) (p : HasInserted c.newest c.hold place b.orders lines b.held held b.steps steps) where
+  module _ (n : N) (made : List EdgeCause) (timelines : Orders) (held : List Held) (steps : List Step) (p : HasInserted c.newest c.hold place b.orders timelines b.held held b.steps steps) where
     pub suffix-then : (x : Suffix) → suffix_after b.steps ≡ Some x → suffix_after steps ≡ Some (with_place place x)
     suffix-then x e = ap suffix_after p.steps ∙ suffix-push b.steps (place_step c.newest place) ∙ ap (λ y. after_change y (Place place)) e
 
     pub suffix-now : IsSomeAnd (suffix_after b.steps) (λ x. suffix_after steps ≡ Some (with_place place x))
     suffix-now = and-some (suffix_after b.steps) (suffix k) _ (places k).suffix (suffix-then (suffix k) (places k).suffix)
 
-    pub past-now : AreMarks b.marks (length b.steps) (length b.held) → reading.past n ≡ reading.past b.net → past_of reading (record b { net = n; orders = lines; held = held; steps = steps; causes = made; limit = None }) ≡ past_of reading b
+    pub past-now : AreMarks b.marks (length b.steps) (length b.held) → reading.past n ≡ reading.past b.net → past_of reading (record b { net = n; orders = timelines; held = held; steps = steps; causes = made; limit = None }) ≡ past_of reading b
     past-now marks same =
         (λ i. side_by_side (p.held i) (p.steps i) (same i) (p.past i) b.marks)
         ∙ side-more b.held (c.hold ∷ []) b.steps (place_step c.newest place ∷ []) (reading.past b.net) b.orders.past b.marks (λ j q z. (marks.held_below j q z, marks.steps_below j q z))
 
-    pub at-around : PlaceNet → reading.net n ≡ with_edges (reading.net b.net) (edges_here k) → HasLeast (reading.net n) → IsAtWith m b.plans k.ask (Some (with_place place (suffix k))) steps (reading.net n) lines.orders held
+    pub at-around : PlaceNet → reading.net n ≡ with_edges (reading.net b.net) (edges_here k) → HasLeast (reading.net n) → IsAtWith m b.plans k.ask (Some (with_place place (suffix k))) steps (reading.net n) timelines.orders held
     at-around place_net e solved =
-        moved (λ x l h s. IsAtWith m b.plans k.ask (Some (with_place place (suffix k))) s x l h) _ (reading.net n) _ lines.orders _ held _ steps e p.orders p.held p.steps
+        moved (λ x l h s. IsAtWith m b.plans k.ask (Some (with_place place (suffix k))) s x l h) _ (reading.net n) _ timelines.orders _ held _ steps e p.orders p.held p.steps
         (placed-here k place_net (subst HasLeast e solved) (place_step c.newest place) refl refl)
 
     pub caused-around : PlaceHops → reading.net n ≡ with_edges (reading.net b.net) (edges_here k) → made ≡ causes_here k → AreCaused m b.plans k.ask made steps (reading.net n)
@@ -108,14 +108,14 @@ module _ {N : Type 0} {reading : Reading N} {b : BoardValue N} {m : Machine} {ho
         caused-moved (λ cs x s. AreCaused m b.plans k.ask cs s x) _ made _ (reading.net n) _ steps same e p.steps
         (caused-here k law k.stands.plain k.stands.caused (place_step c.newest place) now)
 
-    pub times-now : BoardSolutions → IsAtWith m b.plans k.ask (Some (with_place place (suffix k))) steps (reading.net n) lines.orders held → IsSomeAnd (suffix_after steps) (λ x. IsSomeAnd b.ask (λ ask. (t : Ticks) × SuffixTimes m b.plans ask x t))
+    pub times-now : BoardSolutions → IsAtWith m b.plans k.ask (Some (with_place place (suffix k))) steps (reading.net n) timelines.orders held → IsSomeAnd (suffix_after steps) (λ x. IsSomeAnd b.ask (λ ask. (t : Ticks) × SuffixTimes m b.plans ask x t))
     times-now law at =
         and-some (suffix_after steps) (with_place place (suffix k)) _ (suffix-then (suffix k) (places k).suffix) (and-some b.ask k.ask _ k.stands.asked
-        (has-times m b.plans k.ask (with_place place (suffix k)) steps (reading.net n) lines.orders held law at))
+        (has-times m b.plans k.ask (with_place place (suffix k)) steps (reading.net n) timelines.orders held law at))
 
-    pub stands-now : AreMarks b.marks (length b.steps) (length b.held) → reading.past n ≡ reading.past b.net → made ≡ causes_here k → IsAtWith m b.plans k.ask (Some (with_place place (suffix k))) steps (reading.net n) lines.orders held → AreCaused m b.plans k.ask made steps (reading.net n)
-        → Stands reading (record b { net = n; orders = lines; held = held; steps = steps; causes = made; limit = None }) m
+    pub stands-now : AreMarks b.marks (length b.steps) (length b.held) → reading.past n ≡ reading.past b.net → made ≡ causes_here k → IsAtWith m b.plans k.ask (Some (with_place place (suffix k))) steps (reading.net n) timelines.orders held → AreCaused m b.plans k.ask made steps (reading.net n)
+        → Stands reading (record b { net = n; orders = timelines; held = held; steps = steps; causes = made; limit = None }) m
     stands-now marks same e at caused = (
       k.ask,
-      stands-after reading b n lines held steps made m k.ask (with_place place (suffix k)) k.stands (past-now marks same) (suffix-then (suffix k) (places k).suffix) at (subst (Keeps (length b.steps) b.causes) (sym e) (keeps-here k)) caused,
+      stands-after reading b n timelines held steps made m k.ask (with_place place (suffix k)) k.stands (past-now marks same) (suffix-then (suffix k) (places k).suffix) at (subst (Keeps (length b.steps) b.causes) (sym e) (keeps-here k)) caused,
     )

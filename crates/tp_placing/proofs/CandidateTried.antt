@@ -80,16 +80,16 @@ module _ {N : Type 0} {reading : Reading N} {b : BoardValue N} {m : Machine} {ho
         and-some (suffix_after b.steps) (suffix k) _ (places k).suffix (and-some b.ask k.ask _ k.stands.asked there)
 
     -- ---- where it is placed
-    module _ (n : N) (made : List EdgeCause) (lines : Orders) (held : List Held) (steps : List Step) (p : HasInserted c.newest c.hold place b.orders lines b.held held b.steps steps) where
-      pub at-tried : PlaceNet → reading.net n ≡ with_edges (reading.net b.net) back → HasLeast (reading.net n) → IsAtWith m b.plans k.ask (Some (with_place place (suffix k))) steps (reading.net n) lines.orders held
+    module _ (n : N) (made : List EdgeCause) (timelines : Orders) (held : List Held) (steps : List Step) (p : HasInserted c.newest c.hold place b.orders timelines b.held held b.steps steps) where
+      pub at-tried : PlaceNet → reading.net n ≡ with_edges (reading.net b.net) back → HasLeast (reading.net n) → IsAtWith m b.plans k.ask (Some (with_place place (suffix k))) steps (reading.net n) timelines.orders held
       at-tried place_net e solved =
           let e' = e ∙ ap (with_edges (reading.net b.net)) back-is in
-          moved (λ x l h s. IsAtWith m b.plans k.ask (Some (with_place place (suffix k))) s x l h) _ (reading.net n) _ lines.orders _ held _ steps e' p.orders p.held p.steps
+          moved (λ x l h s. IsAtWith m b.plans k.ask (Some (with_place place (suffix k))) s x l h) _ (reading.net n) _ timelines.orders _ held _ steps e' p.orders p.held p.steps
           (placed-back k place_net (subst HasLeast e' solved) (place_step c.newest place) refl refl)
 
       pub caused-tried : PlaceHops → reading.net n ≡ with_edges (reading.net b.net) back → made ≡ causes_here k → AreCaused m b.plans k.ask made steps (reading.net n)
       caused-tried law e same =
           let e' = e ∙ ap (with_edges (reading.net b.net)) back-is in
-          let now = ap suffix_after (sym p.steps) ∙ suffix-then k n made lines held steps p (suffix k) (places k).suffix in
+          let now = ap suffix_after (sym p.steps) ∙ suffix-then k n made timelines held steps p (suffix k) (places k).suffix in
           caused-moved (λ cs x s. AreCaused m b.plans k.ask cs s x) _ made _ (reading.net n) _ steps same e' p.steps
           (caused-back k law k.stands.plain k.stands.caused (place_step c.newest place) now)

@@ -23,9 +23,9 @@ use Rattle.tp_placing.proofs.LoadTable.{length-table-of}
 use Rattle.tp_placing.proofs.LoadedAgain.{loaded-again}
 
 -- a board on which no goal is open, at the moment of its ask
-pub record IsStill (machine : Machine) (now : ℕ) (plans : List Plan) (n : Net) (lines : List (List ℕ)) (held : List Held) (firsts : List PointId) (last : ℕ) (causes : List EdgeCause) : Type 0 where
+pub record IsStill (machine : Machine) (now : ℕ) (plans : List Plan) (n : Net) (timelines : List (List ℕ)) (held : List Held) (firsts : List PointId) (last : ℕ) (causes : List EdgeCause) : Type 0 where
   pub can : CanLoad machine now plans
-  pub loaded : IsLoaded machine now plans n lines held firsts causes
+  pub loaded : IsLoaded machine now plans n timelines held firsts causes
   pub last_point : last ≡ point_count plans
 
 pub still : {N : Type 0} (reading : Reading N) (b : BoardValue N) (machine : Machine) (now : ℕ) → Stands reading b machine → b.steps ≡ [] → ((before : Ask) → b.ask ≡ Some before → before.now ≡ now) → now ≤ 1000000000

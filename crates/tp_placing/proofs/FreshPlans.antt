@@ -71,6 +71,6 @@ module _ (machine : Machine) (now count : ℕ) (plans : List Plan) (p : Plan) (m
     pub all-load : CanLoad machine now (with_plan (take count plans) p)
     all-load = fresh-loads machine now (take count plans) p can (subst (λ ps. CanLoad machine now (filter (is_live machine now) ps)) are-behind live) alive fresh (subst (AllPairs IsEarlier) are-behind in_order) (subst (λ ps. length ps ≤ 256) are-behind few)
 
-    pub last-behind : (n : Net) (lines : List (List ℕ)) (held : List Held) (firsts : List PointId) (last : ℕ) (causes : List EdgeCause) → IsLoaded machine now (take count plans) n lines held firsts causes → last ≡ point_count (take count plans)
-        → IsBehind machine now plans n lines held firsts last causes
-    last-behind n lines held firsts last causes loaded at-last = record { plans = take count plans; newest = p; are = are-behind; can = all-load; loadable = can.loadable; loaded = loaded; last_point = at-last }
+    pub last-behind : (n : Net) (timelines : List (List ℕ)) (held : List Held) (firsts : List PointId) (last : ℕ) (causes : List EdgeCause) → IsLoaded machine now (take count plans) n timelines held firsts causes → last ≡ point_count (take count plans)
+        → IsBehind machine now plans n timelines held firsts last causes
+    last-behind n timelines held firsts last causes loaded at-last = record { plans = take count plans; newest = p; are = are-behind; can = all-load; loadable = can.loadable; loaded = loaded; last_point = at-last }

@@ -35,7 +35,7 @@ use Rattle.tp_placing.proofs.NearNet.{near-hops, near-net}
 use Rattle.tp_placing.proofs.PlaceFacts.{edges-of}
 use Rattle.tp_placing.proofs.SlotFacts.{slots-grown}
 use Rattle.tp_placing.proofs.StepFacts.{at-hand-push}
-use Rattle.tp_placing.proofs.StepHops.{lines-made}
+use Rattle.tp_placing.proofs.StepHops.{timelines-made}
 use Rattle.tp_placing.proofs.TableFacts.{length-table}
 
 -- with no step yet
@@ -98,7 +98,7 @@ module _ {N : Type 0} (reading : Reading N) (b : BoardValue N) (m : Machine) (as
   tags = end-tags ask b.plans b.firsts b.last
 
   made : (steps : ℕ) → AreMade steps b.plans b.causes es (map (hop line) (near_gaps ask b.plans))
-  made steps = lines-made steps b.plans 1 b.causes es (near_gaps ask b.plans) s.plain tags (edges-of points es can-points) gaps
+  made steps = timelines-made steps b.plans 1 b.causes es (near_gaps ask b.plans) s.plain tags (edges-of points es can-points) gaps
 
   none-chosen : choices_of (suffix_after b.steps) ≡ no_choices
   none-chosen = ap choices_of closed

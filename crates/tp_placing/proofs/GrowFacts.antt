@@ -98,10 +98,10 @@ slot-before : (P : Slot → Type 0) (xs : List Slot) (place : ℕ) (y : Slot) �
 slot-before P xs zero y all e = absurd cc
 slot-before P xs (suc place) y all e = All-at P xs place y all e
 
-module _ (machine : Machine) (plans : List Plan) (before : ℕ → List Slot) (held : List Held) (lines : List (List ℕ)) (edges : List Edge) (causes : List EdgeCause) (slots : List Slot)
-    (put : HasPut machine plans before held lines edges causes slots) (on : (r : ℕ) → All (IsOf r) (before r)) (smalls : All (λ x. HasSmallOffsets x.rule) held)
+module _ (machine : Machine) (plans : List Plan) (before : ℕ → List Slot) (held : List Held) (timelines : List (List ℕ)) (edges : List Edge) (causes : List EdgeCause) (slots : List Slot)
+    (put : HasPut machine plans before held timelines edges causes slots) (on : (r : ℕ) → All (IsOf r) (before r)) (smalls : All (λ x. HasSmallOffsets x.rule) held)
     (number place : ℕ) (h : Held) (at : slice_get held number ≡ Some h) (inside : IsHeldWithin (length (table_of plans)) h)
-    (resource : h.rule.resource.0 < length machine.resources) (known : h.rule.resource.0 < length lines) (fits : place ≤ length (order_on lines h.rule.resource.0)) (base : step_causes ≤ length causes) where
+    (resource : h.rule.resource.0 < length machine.resources) (known : h.rule.resource.0 < length timelines) (fits : place ≤ length (order_on timelines h.rule.resource.0)) (base : step_causes ≤ length causes) where
   abbrev r : ℕ
   r = h.rule.resource.0
 
@@ -109,7 +109,7 @@ module _ (machine : Machine) (plans : List Plan) (before : ℕ → List Slot) (h
   table = table_of plans
 
   abbrev order : List ℕ
-  order = order_on lines r
+  order = order_on timelines r
 
   abbrev now : List Slot
   now = with_puts put.puts before r
@@ -155,7 +155,7 @@ module _ (machine : Machine) (plans : List Plan) (before : ℕ → List Slot) (h
     there : (n : ℕ) → n < length (table_of plans) → slice_get (table_of plans) n ≡ Some (spot_at (table_of plans) n)
     there n below = let f = found (table_of plans) n below in f.1 ∙ ap Some (sym (ap spot_in f.1))
 
-  pub put-more : HasPut machine plans before held (slice_set lines r (insert order place number)) (edges ++ edges_around (gap_at machine r) before_held h behind_held (length causes)) all_causes (slots ++ slot_by table h ∷ [])
+  pub put-more : HasPut machine plans before held (slice_set timelines r (insert order place number)) (edges ++ edges_around (gap_at machine r) before_held h behind_held (length causes)) all_causes (slots ++ slot_by table h ∷ [])
   put-more = record {
     puts = put.puts ++ x ∷ [];
     holds = map-append (λ (y : Put). y.slot) put.puts (x ∷ []) ∙ ap (λ ss. ss ++ slot_by table h ∷ []) put.holds;
@@ -163,32 +163,32 @@ module _ (machine : Machine) (plans : List Plan) (before : ℕ → List Slot) (h
     hops = subst (AreHops plans all_causes (edges ++ edges_around (gap_at machine r) before_held h behind_held (length causes))) (sym (put_hops-push machine put.puts x before))
         (hops-append plans all_causes edges (edges_around (gap_at machine r) before_held h behind_held (length causes)) (put_hops machine put.puts before) (place_hops machine r now place (slot_by table h))
         (hops-grow plans causes (causes_for before_held h behind_held) edges (put_hops machine put.puts before) put.hops) around);
-    orders = λ q below. subst (λ (f : ℕ → List Slot). AreSlots table held (order_on (slice_set lines r (insert order place number)) q) (f q)) (sym (puts-push put.puts x before)) (go q below (r == q) refl);
+    orders = λ q below. subst (λ (f : ℕ → List Slot). AreSlots table held (order_on (slice_set timelines r (insert order place number)) q) (f q)) (sym (puts-push put.puts x before)) (go q below (r == q) refl);
   } where
     go : (q : ℕ) → q < length machine.resources → (b : Bool) → (h.rule.resource.0 == q) ≡ b
-        → AreSlots (table_of plans) held (order_on (slice_set lines h.rule.resource.0 (insert (order_on lines h.rule.resource.0) place number)) q) (with_put (record { slot = slot_by (table_of plans) h; place = place }) (with_puts put.puts before) q)
+        → AreSlots (table_of plans) held (order_on (slice_set timelines h.rule.resource.0 (insert (order_on timelines h.rule.resource.0) place number)) q) (with_put (record { slot = slot_by (table_of plans) h; place = place }) (with_puts put.puts before) q)
     go q below true e =
         let same : h.rule.resource.0 ≡ q = grind (arith, nat_tests) in
-        subst (λ k. AreSlots (table_of plans) held (order_on (slice_set lines h.rule.resource.0 (insert (order_on lines h.rule.resource.0) place number)) k) (with_put (record { slot = slot_by (table_of plans) h; place = place }) (with_puts put.puts before) k)) same
-        (subst (λ ids. AreSlots (table_of plans) held ids (with_put (record { slot = slot_by (table_of plans) h; place = place }) (with_puts put.puts before) h.rule.resource.0)) (sym (order-same lines h.rule.resource.0 (insert (order_on lines h.rule.resource.0) place number) known))
-        (subst (AreSlots (table_of plans) held (insert (order_on lines h.rule.resource.0) place number)) (sym (put-here (record { slot = slot_by (table_of plans) h; place = place }) (with_puts put.puts before)))
-        (slots-insert (table_of plans) held (order_on lines h.rule.resource.0) (with_puts put.puts before h.rule.resource.0) place number (slot_by (table_of plans) h) are new-slot)))
+        subst (λ k. AreSlots (table_of plans) held (order_on (slice_set timelines h.rule.resource.0 (insert (order_on timelines h.rule.resource.0) place number)) k) (with_put (record { slot = slot_by (table_of plans) h; place = place }) (with_puts put.puts before) k)) same
+        (subst (λ ids. AreSlots (table_of plans) held ids (with_put (record { slot = slot_by (table_of plans) h; place = place }) (with_puts put.puts before) h.rule.resource.0)) (sym (order-same timelines h.rule.resource.0 (insert (order_on timelines h.rule.resource.0) place number) known))
+        (subst (AreSlots (table_of plans) held (insert (order_on timelines h.rule.resource.0) place number)) (sym (put-here (record { slot = slot_by (table_of plans) h; place = place }) (with_puts put.puts before)))
+        (slots-insert (table_of plans) held (order_on timelines h.rule.resource.0) (with_puts put.puts before h.rule.resource.0) place number (slot_by (table_of plans) h) are new-slot)))
     go q below false e =
         let ne : h.rule.resource.0 ≡ q → ⊥ = (λ same. grind (arith, nat_tests)) in
-        subst (λ ids. AreSlots (table_of plans) held ids (with_put (record { slot = slot_by (table_of plans) h; place = place }) (with_puts put.puts before) q)) (sym (get_or-set_other lines h.rule.resource.0 q (insert (order_on lines h.rule.resource.0) place number) [] (λ f. ne (sym f))))
+        subst (λ ids. AreSlots (table_of plans) held ids (with_put (record { slot = slot_by (table_of plans) h; place = place }) (with_puts put.puts before) q)) (sym (get_or-set_other timelines h.rule.resource.0 q (insert (order_on timelines h.rule.resource.0) place number) [] (λ f. ne (sym f))))
         (rw e (put.orders q below))
 
-pub put-none : (machine : Machine) (plans : List Plan) (before : ℕ → List Slot) (held : List Held) (lines : List (List ℕ)) (causes : List EdgeCause)
-    → ((r : ℕ) → r < length machine.resources → AreSlots (table_of plans) held (order_on lines r) (before r)) → HasPut machine plans before held lines [] causes []
-put-none machine plans before held lines causes orders = record { puts = []; holds = refl; within = tt; hops = hops-none plans causes; orders = orders }
+pub put-none : (machine : Machine) (plans : List Plan) (before : ℕ → List Slot) (held : List Held) (timelines : List (List ℕ)) (causes : List EdgeCause)
+    → ((r : ℕ) → r < length machine.resources → AreSlots (table_of plans) held (order_on timelines r) (before r)) → HasPut machine plans before held timelines [] causes []
+put-none machine plans before held timelines causes orders = record { puts = []; holds = refl; within = tt; hops = hops-none plans causes; orders = orders }
 
 -- the numbers of an order stay those of holds
-pub ids-more : (held : List Held) (lines : List (List ℕ)) (r place number : ℕ) → r < length lines → number < length held → ((q : ℕ) → q < length lines → AreIds held (order_on lines q))
-    → (q : ℕ) → q < length lines → AreIds held (order_on (slice_set lines r (insert (order_on lines r) place number)) q)
-ids-more held lines r place number known inside ids q below = elim (cases_eq q r) [
-  | inl e ↦ subst (λ k. AreIds held (order_on (slice_set lines r (insert (order_on lines r) place number)) k)) (sym e)
-      (subst (AreIds held) (sym (order-same lines r (insert (order_on lines r) place number) known)) (All-insert (λ id. id < length held) (order_on lines r) place number (ids r known) inside))
-  | inr ne ↦ subst (AreIds held) (sym (get_or-set_other lines r q (insert (order_on lines r) place number) [] ne)) (ids q below)
+pub ids-more : (held : List Held) (timelines : List (List ℕ)) (r place number : ℕ) → r < length timelines → number < length held → ((q : ℕ) → q < length timelines → AreIds held (order_on timelines q))
+    → (q : ℕ) → q < length timelines → AreIds held (order_on (slice_set timelines r (insert (order_on timelines r) place number)) q)
+ids-more held timelines r place number known inside ids q below = elim (cases_eq q r) [
+  | inl e ↦ subst (λ k. AreIds held (order_on (slice_set timelines r (insert (order_on timelines r) place number)) k)) (sym e)
+      (subst (AreIds held) (sym (order-same timelines r (insert (order_on timelines r) place number) known)) (All-insert (λ id. id < length held) (order_on timelines r) place number (ids r known) inside))
+  | inr ne ↦ subst (AreIds held) (sym (get_or-set_other timelines r q (insert (order_on timelines r) place number) [] ne)) (ids q below)
 ]
 
 -- ---- one turn of the loop
@@ -204,56 +204,56 @@ slots-push table held from number h le at =
     sym (map-append (slot_by table) (take (number - from) (drop from held)) (h ∷ []))
     ∙ ap (map (slot_by table)) (ap (λ x. take (number - from) (drop from held) ++ x ∷ []) (sym read) ∙ sym more ∙ ap (λ k. take k (drop from held)) next)
 
-pub put-step : (machine : Machine) (plans : List Plan) (held : List Held) (lines lines' : List (List ℕ)) (first edges edges' : List Edge) (causes causes' : List EdgeCause) (from number place apart : ℕ) (h : Held)
-    → edges' ≡ edges ++ edges_around apart (held_before held (order_on lines h.rule.resource.0) place) h (held_behind held (order_on lines h.rule.resource.0) place) (length causes)
-    → causes' ≡ causes ++ causes_for (held_before held (order_on lines h.rule.resource.0) place) h (held_behind held (order_on lines h.rule.resource.0) place)
-    → lines' ≡ slice_set lines h.rule.resource.0 (insert (order_on lines h.rule.resource.0) place number)
+pub put-step : (machine : Machine) (plans : List Plan) (held : List Held) (timelines timelines' : List (List ℕ)) (first edges edges' : List Edge) (causes causes' : List EdgeCause) (from number place apart : ℕ) (h : Held)
+    → edges' ≡ edges ++ edges_around apart (held_before held (order_on timelines h.rule.resource.0) place) h (held_behind held (order_on timelines h.rule.resource.0) place) (length causes)
+    → causes' ≡ causes ++ causes_for (held_before held (order_on timelines h.rule.resource.0) place) h (held_behind held (order_on timelines h.rule.resource.0) place)
+    → timelines' ≡ slice_set timelines h.rule.resource.0 (insert (order_on timelines h.rule.resource.0) place number)
     → apart ≡ gap_at machine h.rule.resource.0 → slice_get held number ≡ Some h → from ≤ number
-    → All (λ x. HasSmallOffsets x.rule) held → IsHeldWithin (length (table_of plans)) h → h.rule.resource.0 < length machine.resources → h.rule.resource.0 < length lines
-    → place ≤ length (order_on lines h.rule.resource.0) → step_causes ≤ length causes
+    → All (λ x. HasSmallOffsets x.rule) held → IsHeldWithin (length (table_of plans)) h → h.rule.resource.0 < length machine.resources → h.rule.resource.0 < length timelines
+    → place ≤ length (order_on timelines h.rule.resource.0) → step_causes ≤ length causes
     → (before : ℕ → List Slot) → ((r : ℕ) → All (IsOf r) (before r))
-    → (es : List Edge) × (edges ≡ first ++ es) × HasPut machine plans before held lines es causes (map (slot_by (table_of plans)) (take (number - from) (drop from held)))
-    → (es : List Edge) × (edges' ≡ first ++ es) × HasPut machine plans before held lines' es causes' (map (slot_by (table_of plans)) (take (number + 1 - from) (drop from held)))
-put-step machine plans held lines lines' first edges edges' causes causes' from number place apart h edges-are causes-are lines-are gap-is at le smalls inside resource known fits base before on (es, is, put) =
-    let around = edges_around apart (held_before held (order_on lines h.rule.resource.0) place) h (held_behind held (order_on lines h.rule.resource.0) place) (length causes) in
-    let more = put-more machine plans before held lines es causes (map (slot_by (table_of plans)) (take (number - from) (drop from held))) put on smalls number place h at inside resource known fits base in (
+    → (es : List Edge) × (edges ≡ first ++ es) × HasPut machine plans before held timelines es causes (map (slot_by (table_of plans)) (take (number - from) (drop from held)))
+    → (es : List Edge) × (edges' ≡ first ++ es) × HasPut machine plans before held timelines' es causes' (map (slot_by (table_of plans)) (take (number + 1 - from) (drop from held)))
+put-step machine plans held timelines timelines' first edges edges' causes causes' from number place apart h edges-are causes-are timelines-are gap-is at le smalls inside resource known fits base before on (es, is, put) =
+    let around = edges_around apart (held_before held (order_on timelines h.rule.resource.0) place) h (held_behind held (order_on timelines h.rule.resource.0) place) (length causes) in
+    let more = put-more machine plans before held timelines es causes (map (slot_by (table_of plans)) (take (number - from) (drop from held))) put on smalls number place h at inside resource known fits base in (
       es ++ around,
       edges-are ∙ ap (λ xs. xs ++ around) is ∙ append_assoc first es around,
-      subst (λ ls. HasPut machine plans before held ls (es ++ around) causes' (map (slot_by (table_of plans)) (take (number + 1 - from) (drop from held)))) (sym lines-are)
-          (subst (λ cs. HasPut machine plans before held (slice_set lines h.rule.resource.0 (insert (order_on lines h.rule.resource.0) place number)) (es ++ around) cs (map (slot_by (table_of plans)) (take (number + 1 - from) (drop from held)))) (sym causes-are)
-          (subst (HasPut machine plans before held (slice_set lines h.rule.resource.0 (insert (order_on lines h.rule.resource.0) place number)) (es ++ around) (causes ++ causes_for (held_before held (order_on lines h.rule.resource.0) place) h (held_behind held (order_on lines h.rule.resource.0) place))) (slots-push (table_of plans) held from number h le at)
-          (subst (λ g. HasPut machine plans before held (slice_set lines h.rule.resource.0 (insert (order_on lines h.rule.resource.0) place number)) (es ++ edges_around g (held_before held (order_on lines h.rule.resource.0) place) h (held_behind held (order_on lines h.rule.resource.0) place) (length causes)) (causes ++ causes_for (held_before held (order_on lines h.rule.resource.0) place) h (held_behind held (order_on lines h.rule.resource.0) place)) (map (slot_by (table_of plans)) (take (number - from) (drop from held)) ++ slot_by (table_of plans) h ∷ [])) (sym gap-is) more))),
+      subst (λ ls. HasPut machine plans before held ls (es ++ around) causes' (map (slot_by (table_of plans)) (take (number + 1 - from) (drop from held)))) (sym timelines-are)
+          (subst (λ cs. HasPut machine plans before held (slice_set timelines h.rule.resource.0 (insert (order_on timelines h.rule.resource.0) place number)) (es ++ around) cs (map (slot_by (table_of plans)) (take (number + 1 - from) (drop from held)))) (sym causes-are)
+          (subst (HasPut machine plans before held (slice_set timelines h.rule.resource.0 (insert (order_on timelines h.rule.resource.0) place number)) (es ++ around) (causes ++ causes_for (held_before held (order_on timelines h.rule.resource.0) place) h (held_behind held (order_on timelines h.rule.resource.0) place))) (slots-push (table_of plans) held from number h le at)
+          (subst (λ g. HasPut machine plans before held (slice_set timelines h.rule.resource.0 (insert (order_on timelines h.rule.resource.0) place number)) (es ++ edges_around g (held_before held (order_on timelines h.rule.resource.0) place) h (held_behind held (order_on timelines h.rule.resource.0) place) (length causes)) (causes ++ causes_for (held_before held (order_on timelines h.rule.resource.0) place) h (held_behind held (order_on timelines h.rule.resource.0) place)) (map (slot_by (table_of plans)) (take (number - from) (drop from held)) ++ slot_by (table_of plans) h ∷ [])) (sym gap-is) more))),
     )
 
 -- what one turn does to sizes and numbers
-pub record HasTurned (held : List Held) (lines lines' : List (List ℕ)) (edges edges' : List Edge) (causes causes' : List EdgeCause) : Type 0 where
+pub record HasTurned (held : List Held) (timelines timelines' : List (List ℕ)) (edges edges' : List Edge) (causes causes' : List EdgeCause) : Type 0 where
   pub two_causes : length causes' ≡ length causes + 2
   pub few_edges : length edges' ≤ length edges + 2
-  pub one_more : total lines' ≡ total lines + 1
-  pub same_count : length lines' ≡ length lines
-  pub ids : (q : ℕ) → q < length lines' → AreIds held (order_on lines' q)
+  pub one_more : total timelines' ≡ total timelines + 1
+  pub same_count : length timelines' ≡ length timelines
+  pub ids : (q : ℕ) → q < length timelines' → AreIds held (order_on timelines' q)
   pub behind : (base more : List EdgeCause) → causes ≡ base ++ more → (all : List EdgeCause) × (causes' ≡ base ++ all)
 
-pub turned : (held : List Held) (lines lines' : List (List ℕ)) (edges edges' : List Edge) (causes causes' : List EdgeCause) (number place apart : ℕ) (h : Held)
-    → edges' ≡ edges ++ edges_around apart (held_before held (order_on lines h.rule.resource.0) place) h (held_behind held (order_on lines h.rule.resource.0) place) (length causes)
-    → causes' ≡ causes ++ causes_for (held_before held (order_on lines h.rule.resource.0) place) h (held_behind held (order_on lines h.rule.resource.0) place)
-    → lines' ≡ slice_set lines h.rule.resource.0 (insert (order_on lines h.rule.resource.0) place number)
-    → h.rule.resource.0 < length lines → place ≤ length (order_on lines h.rule.resource.0) → number < length held → ((q : ℕ) → q < length lines → AreIds held (order_on lines q))
-    → HasTurned held lines lines' edges edges' causes causes'
-turned held lines lines' edges edges' causes causes' number place apart h edges-are causes-are lines-are known fits inside ids =
-    let e = ap length edges-are ∙ length-append edges (edges_around apart (held_before held (order_on lines h.rule.resource.0) place) h (held_behind held (order_on lines h.rule.resource.0) place) (length causes)) in
-    let two = two-neighbours apart (held_before held (order_on lines h.rule.resource.0) place) (held_behind held (order_on lines h.rule.resource.0) place) h (length causes) in
-    let n = ap length lines-are ∙ length-set lines h.rule.resource.0 (insert (order_on lines h.rule.resource.0) place number) in
+pub turned : (held : List Held) (timelines timelines' : List (List ℕ)) (edges edges' : List Edge) (causes causes' : List EdgeCause) (number place apart : ℕ) (h : Held)
+    → edges' ≡ edges ++ edges_around apart (held_before held (order_on timelines h.rule.resource.0) place) h (held_behind held (order_on timelines h.rule.resource.0) place) (length causes)
+    → causes' ≡ causes ++ causes_for (held_before held (order_on timelines h.rule.resource.0) place) h (held_behind held (order_on timelines h.rule.resource.0) place)
+    → timelines' ≡ slice_set timelines h.rule.resource.0 (insert (order_on timelines h.rule.resource.0) place number)
+    → h.rule.resource.0 < length timelines → place ≤ length (order_on timelines h.rule.resource.0) → number < length held → ((q : ℕ) → q < length timelines → AreIds held (order_on timelines q))
+    → HasTurned held timelines timelines' edges edges' causes causes'
+turned held timelines timelines' edges edges' causes causes' number place apart h edges-are causes-are timelines-are known fits inside ids =
+    let e = ap length edges-are ∙ length-append edges (edges_around apart (held_before held (order_on timelines h.rule.resource.0) place) h (held_behind held (order_on timelines h.rule.resource.0) place) (length causes)) in
+    let two = two-neighbours apart (held_before held (order_on timelines h.rule.resource.0) place) (held_behind held (order_on timelines h.rule.resource.0) place) h (length causes) in
+    let n = ap length timelines-are ∙ length-set timelines h.rule.resource.0 (insert (order_on timelines h.rule.resource.0) place number) in
     record {
-      two_causes = ap length causes-are ∙ length-append causes (causes_for (held_before held (order_on lines h.rule.resource.0) place) h (held_behind held (order_on lines h.rule.resource.0) place));
+      two_causes = ap length causes-are ∙ length-append causes (causes_for (held_before held (order_on timelines h.rule.resource.0) place) h (held_behind held (order_on timelines h.rule.resource.0) place));
       few_edges = omega arith;
-      one_more = ap total lines-are ∙ total-more lines h.rule.resource.0 place number known fits;
+      one_more = ap total timelines-are ∙ total-more timelines h.rule.resource.0 place number known fits;
       same_count = n;
-      ids = λ q below. subst (λ ls. AreIds held (order_on ls q)) (sym lines-are) (ids-more held lines h.rule.resource.0 place number known inside ids q (omega arith));
+      ids = λ q below. subst (λ ls. AreIds held (order_on ls q)) (sym timelines-are) (ids-more held timelines h.rule.resource.0 place number known inside ids q (omega arith));
       behind = λ base more is. (
-        more ++ causes_for (held_before held (order_on lines h.rule.resource.0) place) h (held_behind held (order_on lines h.rule.resource.0) place),
-        causes-are ∙ ap (λ cs. cs ++ causes_for (held_before held (order_on lines h.rule.resource.0) place) h (held_behind held (order_on lines h.rule.resource.0) place)) is
-            ∙ append_assoc base more (causes_for (held_before held (order_on lines h.rule.resource.0) place) h (held_behind held (order_on lines h.rule.resource.0) place)),
+        more ++ causes_for (held_before held (order_on timelines h.rule.resource.0) place) h (held_behind held (order_on timelines h.rule.resource.0) place),
+        causes-are ∙ ap (λ cs. cs ++ causes_for (held_before held (order_on timelines h.rule.resource.0) place) h (held_behind held (order_on timelines h.rule.resource.0) place)) is
+            ∙ append_assoc base more (causes_for (held_before held (order_on timelines h.rule.resource.0) place) h (held_behind held (order_on timelines h.rule.resource.0) place)),
       );
     }
 
@@ -278,10 +278,10 @@ slot-within table held (i ∷ ids) (s ∷ slots) are zero id h at here =
 slot-within table held (i ∷ ids) (s ∷ slots) are (suc k) id h at here = slot-within table held ids slots are.1 k id h at here
 
 -- the same with plans, holds, causes and a number by other names
-pub put-as : (machine : Machine) (plans plans' : List Plan) (before : ℕ → List Slot) (held held' : List Held) (lines : List (List ℕ)) (es : List Edge) (causes causes' : List EdgeCause) (from from' : ℕ) → plans ≡ plans' → held ≡ held' → causes ≡ causes' → from ≡ from'
-    → HasPut machine plans before held lines es causes (map (slot_by (table_of plans)) (drop from held)) → HasPut machine plans' before held' lines es causes' (map (slot_by (table_of plans')) (drop from' held'))
-put-as machine plans plans' before held held' lines es causes causes' from from' a b c d put =
-    subst (λ ps. HasPut machine ps before held' lines es causes' (map (slot_by (table_of ps)) (drop from' held'))) a
-    (subst (λ hs. HasPut machine plans before hs lines es causes' (map (slot_by (table_of plans)) (drop from' hs))) b
-    (subst (λ cs. HasPut machine plans before held lines es cs (map (slot_by (table_of plans)) (drop from' held))) c
-    (subst (λ k. HasPut machine plans before held lines es causes (map (slot_by (table_of plans)) (drop k held))) d put)))
+pub put-as : (machine : Machine) (plans plans' : List Plan) (before : ℕ → List Slot) (held held' : List Held) (timelines : List (List ℕ)) (es : List Edge) (causes causes' : List EdgeCause) (from from' : ℕ) → plans ≡ plans' → held ≡ held' → causes ≡ causes' → from ≡ from'
+    → HasPut machine plans before held timelines es causes (map (slot_by (table_of plans)) (drop from held)) → HasPut machine plans' before held' timelines es causes' (map (slot_by (table_of plans')) (drop from' held'))
+put-as machine plans plans' before held held' timelines es causes causes' from from' a b c d put =
+    subst (λ ps. HasPut machine ps before held' timelines es causes' (map (slot_by (table_of ps)) (drop from' held'))) a
+    (subst (λ hs. HasPut machine plans before hs timelines es causes' (map (slot_by (table_of plans)) (drop from' hs))) b
+    (subst (λ cs. HasPut machine plans before held timelines es cs (map (slot_by (table_of plans)) (drop from' held))) c
+    (subst (λ k. HasPut machine plans before held timelines es causes (map (slot_by (table_of plans)) (drop k held))) d put)))

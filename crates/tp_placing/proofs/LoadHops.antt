@@ -134,13 +134,13 @@ module _ (all : List Plan) (causes : List EdgeCause) (plain : ArePlain causes) w
         (record { from = within; to = behind; least = omega (arith, ints); most = omega (arith, ints) }) (few-tags line_tag (omega arith)) (inl (omega arith))
     go false rest = rest
 
-  pub lines-hops : (n : ℕ) (plans : List Plan) → AreNumbered (table_of all) n plans → AreHops all causes (lines_edges n plans) (map (hop line) (line_gaps plans))
-  lines-hops n [] at = hops-none all causes
-  lines-hops n (p ∷ plans) at =
+  pub timelines-hops : (n : ℕ) (plans : List Plan) → AreNumbered (table_of all) n plans → AreHops all causes (lines_edges n plans) (map (hop line) (line_gaps plans))
+  timelines-hops n [] at = hops-none all causes
+  timelines-hops n (p ∷ plans) at =
       subst (AreHops all causes (lines_edges n (p ∷ plans))) (sym (map-append (hop line) (line_gap p (find (is_same_line p) plans)) (line_gaps plans)))
       (hops-append all causes (line_edge (point_id (n + length p.acts)) (next_end p (n + length p.acts + 1) plans)) (lines_edges (n + length p.acts + 1) plans) (map (hop line) (line_gap p (find (is_same_line p) plans))) (map (hop line) (line_gaps plans))
       (next-hops (n + length p.acts + 1) (n + length p.acts) p plans (end-at n p at.0) at.1)
-      (lines-hops (n + length p.acts + 1) plans at.1))
+      (timelines-hops (n + length p.acts + 1) plans at.1))
 
 -- how many edges there are
 pub acts-count : (machine : Machine) (n : ℕ) (acts : List ActId) → length (acts_edges machine n acts) ≤ 2 * length acts
@@ -163,12 +163,12 @@ durations-count machine n (p ∷ plans) few =
     let rest = durations-count machine (n + length p.acts + 1) plans (All-tail (λ q. length q.acts ≤ 64) p plans few) in
     omega arith
 
-pub lines-count : (n : ℕ) (plans : List Plan) → length (lines_edges n plans) ≤ length plans
-lines-count n [] = omega arith
-lines-count n (p ∷ plans) =
+pub timelines-count : (n : ℕ) (plans : List Plan) → length (lines_edges n plans) ≤ length plans
+timelines-count n [] = omega arith
+timelines-count n (p ∷ plans) =
     let a = length-append (line_edge (point_id (n + length p.acts)) (next_end p (n + length p.acts + 1) plans)) (lines_edges (n + length p.acts + 1) plans) in
     let one = few (next_end p (n + length p.acts + 1) plans) in
-    let rest = lines-count (n + length p.acts + 1) plans in
+    let rest = timelines-count (n + length p.acts + 1) plans in
     omega arith where
       few : (o : Option PointId) → length (line_edge (point_id (n + length p.acts)) o) ≤ 1
       few None = omega arith

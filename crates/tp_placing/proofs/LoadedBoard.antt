@@ -21,8 +21,8 @@ use Rattle.tp_base.specs.declared.edges.PointId.{PointId}
 use Rattle.tp_placing.proofs.LivePlans.{live-few, live-asked, live-loads}
 use Rattle.tp_placing.proofs.LoadTable.{length-table-of}
 
-at-first : (machine : Machine) (plans : List Plan) (ask : Ask) (n : Net) (lines : List (List ℕ)) (held : List Held) (firsts : List PointId) (causes : List EdgeCause) → kept_of ask ≤ 64 → IsLoaded machine ask.now plans n lines held firsts causes → IsAt machine plans ask [] n lines held
-at-first machine plans ask n lines held firsts causes few l = record {
+at-first : (machine : Machine) (plans : List Plan) (ask : Ask) (n : Net) (timelines : List (List ℕ)) (held : List Held) (firsts : List PointId) (causes : List EdgeCause) → kept_of ask ≤ 64 → IsLoaded machine ask.now plans n timelines held firsts causes → IsAt machine plans ask [] n timelines held
+at-first machine plans ask n timelines held firsts causes few l = record {
   net = l.net;
   says = l.says;
   solved = l.solved;

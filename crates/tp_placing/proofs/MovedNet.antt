@@ -40,8 +40,8 @@ use Rattle.tp_placing.proofs.MovedPlans.{further-count, further-firsts, further-
 pub loads-rise : (machine : Machine) (now : ℕ) (plans : List Plan) → CanLoad machine now plans → All (λ (p : Plan). (i : ℕ) → i < length p.acts → point p i < point p (i + 1)) plans
 loads-rise machine now plans can = All-weaker (IsTimedPlan machine) (λ (p : Plan). (i : ℕ) → i < length p.acts → point p i < point p (i + 1)) (λ p t. t.rise) plans can.loadable.legal.timed
 
-module _ (machine : Machine) (before now : ℕ) (plans : List Plan) (net : Net) (lines : List (List ℕ)) (held : List Held) (firsts : List PointId) (causes : List EdgeCause) (can : CanLoad machine before plans)
-    (loaded : IsLoaded machine before plans net lines held firsts causes) where
+module _ (machine : Machine) (before now : ℕ) (plans : List Plan) (net : Net) (timelines : List (List ℕ)) (held : List Held) (firsts : List PointId) (causes : List EdgeCause) (can : CanLoad machine before plans)
+    (loaded : IsLoaded machine before plans net timelines held firsts causes) where
   -- how many points there are, and the least ticks of the points before
   pub points-are : length net.lows ≡ point_count plans
   points-are = ap length loaded.net.lows ∙ length-map (table_of plans) (low_at (before + machine.lead) (λ _. false) plans no_own) ∙ length-table-of plans
@@ -65,7 +65,7 @@ module _ (machine : Machine) (before now : ℕ) (plans : List Plan) (net : Net) 
 
     -- with the bounds of the moment the board is loaded
     pub moved-loaded : (net' : Net) → net'.lows ≡ flat_map (lows_of (now + machine.lead)) plans' → net'.caps ≡ flat_map (caps_of (now + machine.window)) plans' → net'.edges ≡ net.edges → ((x : ℕ → ℕ) → IsLeast net x → IsLeast net' x)
-        → IsLoaded machine now plans' net' lines held firsts causes
+        → IsLoaded machine now plans' net' timelines held firsts causes
     moved-loaded net' lows caps edges least =
         let old : SayGaps machine plans net'.edges = subst (SayGaps machine plans) (sym edges) loaded.says in
         let says : SayGaps machine plans' net'.edges = shape_says machine plans plans' net'.edges (further-shapes machine before now plans plans' later is) (further-orders machine before now plans plans' later is) old in
@@ -79,7 +79,7 @@ module _ (machine : Machine) (before now : ℕ) (plans : List Plan) (net : Net) 
           orders = λ r below. (
               let t = sym (further-table machine before now plans plans' later is) in
               let o = sym (further-orders machine before now plans plans' later is r) in
-              coe 0 1 (i. AreSlots (t i) held (order_on lines r) (o i)) (loaded.orders r below));
+              coe 0 1 (i. AreSlots (t i) held (order_on timelines r) (o i)) (loaded.orders r below));
           few_edges = subst (λ (es : List Edge). length es ≤ loaded_edges) (sym edges) loaded.few_edges;
           few_holds = loaded.few_holds;
           all_held = loaded.all_held;
@@ -95,11 +95,11 @@ none-marked held steps (c ∷ cs) (o ∷ os) [] n k none = absurd (omega (arith,
 none-marked held steps (c ∷ cs) (o ∷ os) (m ∷ ms) n k none = absurd cc
 
 -- the fields of a board with other plans, and with a network without marks
-pub board-moved : (pasts max_marks max_points max_edges edge_capacity : ℕ) (lines : Orders) (held : Vec Held Global) (begins : Vec Begin Global) (plans plans' : Vec Plan Global) (firsts : Vec PointId Global) (steps : Vec Step Global) (marks : Vec BoardMark Global) (made : Vec Edge Global) (made_for : MadeFor)
-    → IsBoard pasts max_marks max_points max_edges edge_capacity lines held begins plans firsts steps marks made made_for → (pasts' max_marks' max_points' max_edges' : ℕ)
+pub board-moved : (pasts max_marks max_points max_edges edge_capacity : ℕ) (timelines : Orders) (held : Vec Held Global) (begins : Vec Begin Global) (plans plans' : Vec Plan Global) (firsts : Vec PointId Global) (steps : Vec Step Global) (marks : Vec BoardMark Global) (made : Vec Edge Global) (made_for : MadeFor)
+    → IsBoard pasts max_marks max_points max_edges edge_capacity timelines held begins plans firsts steps marks made made_for → (pasts' max_marks' max_points' max_edges' : ℕ)
     → pasts' ≡ pasts → max_marks' ≡ max_marks → max_points' ≡ max_points → max_edges' ≡ max_edges → vec_capacity plans ≤ vec_capacity plans'
-    → IsBoard pasts' max_marks' max_points' max_edges' edge_capacity lines held begins plans' firsts steps marks made made_for
-board-moved pasts max_marks max_points max_edges edge_capacity lines held begins plans plans' firsts steps marks made made_for b pasts' max_marks' max_points' max_edges' p m n e wide =
+    → IsBoard pasts' max_marks' max_points' max_edges' edge_capacity timelines held begins plans' firsts steps marks made made_for
+board-moved pasts max_marks max_points max_edges edge_capacity timelines held begins plans plans' firsts steps marks made made_for b pasts' max_marks' max_points' max_edges' p m n e wide =
     let i = b.marked in
     let r = b.capacity in
     let spare = i.spare in

@@ -43,13 +43,13 @@ use Rattle.tp_placing.proofs.StepFacts.{at-hand-push, edges-more}
 use Rattle.tp_placing.proofs.TableFacts.{table-own}
 
 -- ---- orders with one number more
-pub order-same : (lines : List (List ℕ)) (r : ℕ) (ids : List ℕ) → r < length lines → order_on (slice_set lines r ids) r ≡ ids
-order-same lines r ids h = get_or-set_same lines r ids [] h
+pub order-same : (timelines : List (List ℕ)) (r : ℕ) (ids : List ℕ) → r < length timelines → order_on (slice_set timelines r ids) r ≡ ids
+order-same timelines r ids h = get_or-set_same timelines r ids [] h
 
-pub total-more : (lines : List (List ℕ)) (r place id : ℕ) → r < length lines → place ≤ length (order_on lines r) → total (slice_set lines r (insert (order_on lines r) place id)) ≡ total lines + 1
-total-more lines r place id h w =
-    let s = sum_by-set length lines r (insert (order_on lines r) place id) [] h in
-    let l = length-insert (order_on lines r) place id w in
+pub total-more : (timelines : List (List ℕ)) (r place id : ℕ) → r < length timelines → place ≤ length (order_on timelines r) → total (slice_set timelines r (insert (order_on timelines r) place id)) ≡ total timelines + 1
+total-more timelines r place id h w =
+    let s = sum_by-set length timelines r (insert (order_on timelines r) place id) [] h in
+    let l = length-insert (order_on timelines r) place id w in
     omega arith
 
 pub edges-of : (points : List Spot) (es : List Edge) → All (IsKnown (length points)) es → All (IsEdgeOf points) es
@@ -83,12 +83,12 @@ module _ (m : Machine) (plans : List Plan) (ask : Ask) (c : Choice) (choices : L
       let f = few.0 in let l = length-append c.places (place ∷ []) in
       (omega arith, few.1, omega arith)
 
-  module _ (steps : List Step) (n : Net) (lines : List (List ℕ)) (holds : List Held) (h : Held) (newest : Step)
-      (at : IsAtWith m plans ask (Some x) steps n lines holds) (hand : IsAtHand (length (table_of plans)) (Some x) newest) (some : 0 < length steps)
-      (known : rule.resource.0 < length lines) (resource : rule.resource.0 < length m.resources) (within : place ≤ length (order_in m plans x rule.resource.0)) (four : length c.places < 4) (fits : place ≤ length (order_on lines rule.resource.0))
+  module _ (steps : List Step) (n : Net) (timelines : List (List ℕ)) (holds : List Held) (h : Held) (newest : Step)
+      (at : IsAtWith m plans ask (Some x) steps n timelines holds) (hand : IsAtHand (length (table_of plans)) (Some x) newest) (some : 0 < length steps)
+      (known : rule.resource.0 < length timelines) (resource : rule.resource.0 < length m.resources) (within : place ≤ length (order_in m plans x rule.resource.0)) (four : length c.places < 4) (fits : place ≤ length (order_on timelines rule.resource.0))
       (rule_is : h.rule ≡ rule) (start_is : h.start ≡ newest.first) (end_is : h.end.0 ≡ newest.first.0 - 1) where
     abbrev order : List ℕ
-    order = order_on lines rule.resource.0
+    order = order_on timelines rule.resource.0
 
     abbrev es : List Edge
     es = edges_around (gap_at m rule.resource.0) (held_before holds order place) h (held_behind holds order place) (step_tag (length steps))
@@ -123,24 +123,24 @@ module _ (m : Machine) (plans : List Plan) (ask : Ask) (c : Choice) (choices : L
     new-slot : IsSlotOf table (holds ++ h ∷ []) (length holds) slot
     new-slot = record { hold = h; at = slice_get_last holds h; rule = rule_is; start = start-own; end = end-own }
 
-    orders-after : (q : ℕ) → q < length m.resources → AreSlots table (holds ++ h ∷ []) (order_on (slice_set lines rule.resource.0 (insert order place (length holds))) q) (order_in m plans (with_place place x) q)
+    orders-after : (q : ℕ) → q < length m.resources → AreSlots table (holds ++ h ∷ []) (order_on (slice_set timelines rule.resource.0 (insert order place (length holds))) q) (order_in m plans (with_place place x) q)
     orders-after q q_known = go (rule.resource.0 == q) refl where
-      go : (b : Bool) → (rule.resource.0 == q) ≡ b → AreSlots table (holds ++ h ∷ []) (order_on (slice_set lines rule.resource.0 (insert order place (length holds))) q) (order_in m plans (with_place place x) q)
+      go : (b : Bool) → (rule.resource.0 == q) ≡ b → AreSlots table (holds ++ h ∷ []) (order_on (slice_set timelines rule.resource.0 (insert order place (length holds))) q) (order_in m plans (with_place place x) q)
       go true e =
           let same : rule.resource.0 ≡ q = grind (arith, nat_tests) in
           let old = slots-grown-held table holds (h ∷ []) order (order_in m plans x rule.resource.0) (at.orders rule.resource.0 resource) in
           let new = slots-insert table (holds ++ h ∷ []) order (order_in m plans x rule.resource.0) place (length holds) slot old new-slot in
-          subst (λ k. AreSlots table (holds ++ h ∷ []) (order_on (slice_set lines rule.resource.0 (insert order place (length holds))) k) (order_in m plans (with_place place x) k)) same
-          (subst (λ ids. AreSlots table (holds ++ h ∷ []) ids (order_in m plans (with_place place x) rule.resource.0)) (sym (order-same lines rule.resource.0 (insert order place (length holds)) known))
+          subst (λ k. AreSlots table (holds ++ h ∷ []) (order_on (slice_set timelines rule.resource.0 (insert order place (length holds))) k) (order_in m plans (with_place place x) k)) same
+          (subst (λ ids. AreSlots table (holds ++ h ∷ []) ids (order_in m plans (with_place place x) rule.resource.0)) (sym (order-same timelines rule.resource.0 (insert order place (length holds)) known))
           (subst (AreSlots table (holds ++ h ∷ []) (insert order place (length holds))) (sym order-there) new))
       go false e =
           let ne : rule.resource.0 ≡ q → ⊥ = (λ same. grind (arith, nat_tests)) in
-          let old = slots-grown-held table holds (h ∷ []) (order_on lines q) (order_in m plans x q) (at.orders q q_known) in
-          subst (λ ids. AreSlots table (holds ++ h ∷ []) ids (order_in m plans (with_place place x) q)) (sym (get_or-set_other lines rule.resource.0 q (insert order place (length holds)) [] (λ e. ne (sym e))))
-          (subst (AreSlots table (holds ++ h ∷ []) (order_on lines q)) (sym (order-else q ne)) old)
+          let old = slots-grown-held table holds (h ∷ []) (order_on timelines q) (order_in m plans x q) (at.orders q q_known) in
+          subst (λ ids. AreSlots table (holds ++ h ∷ []) ids (order_in m plans (with_place place x) q)) (sym (get_or-set_other timelines rule.resource.0 q (insert order place (length holds)) [] (λ e. ne (sym e))))
+          (subst (AreSlots table (holds ++ h ∷ []) (order_on timelines q)) (sym (order-else q ne)) old)
 
     pub place-at : PlaceNet → All (IsEdgeOf table) es → HasLeast (with_edges n es) → HasSmallOffsets h.rule → (s : Step) → IsAtHand (length (table_of plans)) (Some x) s
-        → IsAtWith m plans ask (Some (with_place place x)) (steps ++ s ∷ []) (with_edges n es) (slice_set lines rule.resource.0 (insert order place (length holds))) (holds ++ h ∷ [])
+        → IsAtWith m plans ask (Some (with_place place x)) (steps ++ s ∷ []) (with_edges n es) (slice_set timelines rule.resource.0 (insert order place (length holds))) (holds ++ h ∷ [])
     place-at place_net in' solved offsets s at_hand =
         let l = length-append steps (s ∷ []) in
         let e = edges-more steps s some in
@@ -158,6 +158,6 @@ module _ (m : Machine) (plans : List Plan) (ask : Ask) (c : Choice) (choices : L
           few_steps = subst (AreFewSteps (kept_of ask) (Some (with_place place x))) (sym l) (few-place (kept_of ask) (length steps) four at.few_steps);
           few_edges = omega arith;
           few_holds = omega arith;
-          all_held = (let t = total-more lines rule.resource.0 place (length holds) known fits in let a = at.all_held in omega arith);
+          all_held = (let t = total-more timelines rule.resource.0 place (length holds) known fits in let a = at.all_held in omega arith);
           small = All-append (λ k. HasSmallOffsets k.rule) holds (h ∷ []) at.small (All-cons (λ k. HasSmallOffsets k.rule) h [] offsets (All-nil (λ k. HasSmallOffsets k.rule)));
         }

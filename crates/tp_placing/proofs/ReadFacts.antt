@@ -35,18 +35,18 @@ least-for known low cap times table net is i p at tick e =
     }
 
 -- the earliest time of a point of the network is its least tick
-pub least-tick : (m : Machine) (plans : List Plan) (ask : Ask) (x : Option Suffix) (steps : List Step) (n : Net) (lines : List (List ℕ)) (holds : List Held) → IsAtWith m plans ask x steps n lines holds
+pub least-tick : (m : Machine) (plans : List Plan) (ask : Ask) (x : Option Suffix) (steps : List Step) (n : Net) (timelines : List (List ℕ)) (holds : List Held) → IsAtWith m plans ask x steps n timelines holds
     → (i : ℕ) (p : Spot) → slice_get (board_table plans x) i ≡ Some p → (tick : ℕ) → IsEarliest n i tick → IsLeastTick (TimesOf m plans ask x) p tick
-least-tick m plans ask None steps n lines holds at i p there tick e = least-for _ _ _ _ _ n at.net i p there tick e
-least-tick m plans ask (Some x) steps n lines holds at i p there tick e = least-for _ _ _ _ _ n at.net i p there tick e
+least-tick m plans ask None steps n timelines holds at i p there tick e = least-for _ _ _ _ _ n at.net i p there tick e
+least-tick m plans ask (Some x) steps n timelines holds at i p there tick e = least-for _ _ _ _ _ n at.net i p there tick e
 
-pub known-point : (m : Machine) (plans : List Plan) (ask : Ask) (x : Option Suffix) (steps : List Step) (n : Net) (lines : List (List ℕ)) (holds : List Held) → IsAtWith m plans ask x steps n lines holds
+pub known-point : (m : Machine) (plans : List Plan) (ask : Ask) (x : Option Suffix) (steps : List Step) (n : Net) (timelines : List (List ℕ)) (holds : List Held) → IsAtWith m plans ask x steps n timelines holds
     → (i : ℕ) (p : Spot) → slice_get (board_table plans x) i ≡ Some p → i < length n.lows
-known-point m plans ask None steps n lines holds at i p there =
+known-point m plans ask None steps n timelines holds at i p there =
     let l = ap length at.net.lows ∙ length-map (board_table plans None) (low_at (ask.now + m.lead) (λ _. false) plans no_own) in
     let w = slice_get_within (board_table plans None) i p there in
     omega arith
-known-point m plans ask (Some x) steps n lines holds at i p there =
+known-point m plans ask (Some x) steps n timelines holds at i p there =
     let l = ap length at.net.lows ∙ length-map (table_with plans (suc (length x.choices))) (suffix_low m plans ask x) in
     let w = slice_get_within (table_with plans (suc (length x.choices))) i p there in
     omega arith

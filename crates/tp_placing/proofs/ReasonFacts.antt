@@ -56,10 +56,10 @@ module _ (net : Net) (point : PointId) (last : ℕ) (same : length net.caps ≡ 
       let k = All-head (Keeps x) (edge_of point limit (pos 0) limit_tag) [] (All-split (Keeps x) net.edges (edge_of point limit (pos 0) limit_tag ∷ []) s.keeps).1 in
       omega (arith, ints)
 
-pub limit-late : (m : Machine) (plans : List Plan) (ask : Ask) (x : Suffix) (steps : List Step) (n : Net) (lines : List (List ℕ)) (holds : List Held) → IsAtWith m plans ask (Some x) steps n lines holds → BoardSolutions
+pub limit-late : (m : Machine) (plans : List Plan) (ask : Ask) (x : Suffix) (steps : List Step) (n : Net) (timelines : List (List ℕ)) (holds : List Held) → IsAtWith m plans ask (Some x) steps n timelines holds → BoardSolutions
     → (end : PointId) → slice_get (table_with plans (suc (length x.choices))) end.0 ≡ Some (own 0) → (bound last : ℕ) → IsLeastTick (SuffixTimes m plans ask x) (own 0) bound → last < bound
     → HasNoSolution (with_limit n end last)
-limit-late m plans ask x steps n lines holds at law end there bound last least below sol s =
+limit-late m plans ask x steps n timelines holds at law end there bound last least below sol s =
     let table = table_with plans (suc (length x.choices)) in
     let caps = ap length at.net.caps ∙ length-map table (suffix_cap m plans ask) ∙ sym (ap length at.net.lows ∙ length-map table (suffix_low m plans ask x)) in
     let times = (law m plans ask x table n at.net sol).0 (without-limit n end last caps sol s) in

@@ -36,15 +36,15 @@ some-at None P h = absurd h
 some-at (Some x) P h = h
 
 -- the points of a network with a suffix
-pub length-lows : (m : Machine) (plans : List Plan) (ask : Ask) (x : Suffix) (steps : List Step) (n : Net) (lines : List (List ℕ)) (holds : List Held) → IsAtWith m plans ask (Some x) steps n lines holds
+pub length-lows : (m : Machine) (plans : List Plan) (ask : Ask) (x : Suffix) (steps : List Step) (n : Net) (timelines : List (List ℕ)) (holds : List Held) → IsAtWith m plans ask (Some x) steps n timelines holds
     → length n.lows ≡ length (table_of plans) + suc (length x.choices)
-length-lows m plans ask x steps n lines holds at =
+length-lows m plans ask x steps n timelines holds at =
     ap length at.net.lows ∙ length-map (table_with plans (suc (length x.choices))) (suffix_low m plans ask x) ∙ length-table plans (suc (length x.choices))
 
 -- a network with a solution has times
-pub has-times : (m : Machine) (plans : List Plan) (ask : Ask) (x : Suffix) (steps : List Step) (n : Net) (lines : List (List ℕ)) (holds : List Held) → BoardSolutions → IsAtWith m plans ask (Some x) steps n lines holds
+pub has-times : (m : Machine) (plans : List Plan) (ask : Ask) (x : Suffix) (steps : List Step) (n : Net) (timelines : List (List ℕ)) (holds : List Held) → BoardSolutions → IsAtWith m plans ask (Some x) steps n timelines holds
     → (t : Ticks) × SuffixTimes m plans ask x t
-has-times m plans ask x steps n lines holds law at =
+has-times m plans ask x steps n timelines holds law at =
     let table = table_with plans (suc (length x.choices)) in
     (ticks_by table at.solved.0, (law m plans ask x table n at.net at.solved.0).0 at.solved.1.solution)
 

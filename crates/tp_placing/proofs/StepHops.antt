@@ -50,9 +50,9 @@ line-hops plans count causes (e ∷ es) plain tags known =
     let rest = line-hops plans count causes es plain (All-tail (λ (d : Edge). d.tag ≡ line_tag) e es tags) (All-tail (IsEdgeOf (table_with plans count)) e es known) in
     λ i. one i ∷ rest i
 
-pub lines-made : (steps : ℕ) (plans : List Plan) (count : ℕ) (causes : List EdgeCause) (es : List Edge) (gs : List Gap) → ArePlain causes → All (λ e. e.tag ≡ line_tag) es → All (IsEdgeOf (table_with plans count)) es
+pub timelines-made : (steps : ℕ) (plans : List Plan) (count : ℕ) (causes : List EdgeCause) (es : List Edge) (gs : List Gap) → ArePlain causes → All (λ e. e.tag ≡ line_tag) es → All (IsEdgeOf (table_with plans count)) es
     → map (gap_by (table_with plans count)) es ≡ gs → AreMade steps plans causes es (map (hop line) gs)
-lines-made steps plans count causes es gs plain tags known gaps = record {
+timelines-made steps plans count causes es gs plain tags known gaps = record {
   hops = line-hops plans count causes es plain tags known ∙ ap (map (hop line)) gaps;
   tags = λ i d w. (let t = tags i d w in let s = plain.slots in omega arith);
   safe = λ i d w. inl (let t = tags i d w in omega arith);

@@ -40,13 +40,13 @@ use Rattle.tp_placing.proofs.StepHops.{stop-made}
 few-stop : (count steps : ℕ) (x : Suffix) → IsFalse x.stopped → AreFewSteps count (Some x) steps → AreFewSteps count (Some (with_stop x)) (steps + 1)
 few-stop count steps x going few = let e : x.stopped ≡ false = search (rules, going) in let f = few.0 in let g = rw e at f in (omega arith, few.1, few.2)
 
-pub stop-at : StopNet → (machine : Machine) (plans : List Plan) (ask : Ask) (x : Suffix) (steps : List Step) (n : Net) (lines : List (List ℕ)) (holds : List Held) (s : Step) (e : Edge)
+pub stop-at : StopNet → (machine : Machine) (plans : List Plan) (ask : Ask) (x : Suffix) (steps : List Step) (n : Net) (timelines : List (List ℕ)) (holds : List Held) (s : Step) (e : Edge)
     → IsAsked machine plans ask → IsInFlight ask.origin → IsFalse x.stopped → 0 < length steps
-    → IsAtWith machine plans ask (Some x) steps n lines holds
+    → IsAtWith machine plans ask (Some x) steps n timelines holds
     → IsEdgeOf (table_with plans (suc (length x.choices))) e → gap_by (table_with plans (suc (length x.choices))) e ≡ gap (own (length x.choices)) (kept ask.sheet (kept_of ask)) (pos 0)
     → HasLeast (with_edge n e) → IsAtHand (length (table_of plans)) (Some x) s
-    → IsAtWith machine plans ask (Some (with_stop x)) (steps ++ s ∷ []) (with_edge n e) lines holds
-stop-at stop_net machine plans ask x steps n lines holds s e asked flying going some at in' gap solved hand =
+    → IsAtWith machine plans ask (Some (with_stop x)) (steps ++ s ∷ []) (with_edge n e) timelines holds
+stop-at stop_net machine plans ask x steps n timelines holds s e asked flying going some at in' gap solved hand =
     let table = table_with plans (suc (length x.choices)) in
     let gaps : map (gap_by table) (e ∷ []) ≡ stop_gaps ask (length x.choices) true = ap (λ g. g ∷ []) gap in
     let l = length-append steps (s ∷ []) in

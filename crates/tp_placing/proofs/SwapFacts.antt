@@ -70,9 +70,9 @@ module _ (n : Net) (es fs : List Edge) (there : All (Contains es) fs) (back : Al
     );
   }
 
-  pub at-swapped : (m : Machine) (plans : List Plan) (ask : Ask) (x : Suffix) (steps : List Step) (lines : List (List ℕ)) (holds : List Held) → length fs ≡ length es → IsAtWith m plans ask (Some x) steps (with_edges n es) lines holds
-      → IsAtWith m plans ask (Some x) steps (with_edges n fs) lines holds
-  at-swapped m plans ask x steps lines holds same at =
+  pub at-swapped : (m : Machine) (plans : List Plan) (ask : Ask) (x : Suffix) (steps : List Step) (timelines : List (List ℕ)) (holds : List Held) → length fs ≡ length es → IsAtWith m plans ask (Some x) steps (with_edges n es) timelines holds
+      → IsAtWith m plans ask (Some x) steps (with_edges n fs) timelines holds
+  at-swapped m plans ask x steps timelines holds same at =
       let few = at.few_edges in
       let a = length-append n.edges es in
       let b = length-append n.edges fs in

@@ -39,8 +39,8 @@ module _ {N : Type 0} (reading : Reading N) where
       record { x = y.0; suffix = y.1; complete = y.2; at = at; first = hand.1; lows = length-lows m b.plans ask y.0 b.steps (reading.net b.net) b.orders.orders b.held at }
 
 -- the least ticks of all its points
-pub ready-ticks : (m : Machine) (plans : List Plan) (ask : Ask) (x : Suffix) (steps : List Step) (n : Net) (lines : _) (holds : _) (at : IsAtWith m plans ask (Some x) steps n lines holds) → AreLeastTicks n (board_table plans (Some x)) (ticks_by (board_table plans (Some x)) at.solved.0)
-ready-ticks m plans ask x steps n lines holds at = record {
+pub ready-ticks : (m : Machine) (plans : List Plan) (ask : Ask) (x : Suffix) (steps : List Step) (n : Net) (timelines : _) (holds : _) (at : IsAtWith m plans ask (Some x) steps n timelines holds) → AreLeastTicks n (board_table plans (Some x)) (ticks_by (board_table plans (Some x)) at.solved.0)
+ready-ticks m plans ask x steps n timelines holds at = record {
   solution = at.solved.0;
   least = at.solved.1;
   there = λ i s e. ap at.solved.0 (number-at (board_table plans (Some x)) at.net.is_table.differ i s e);

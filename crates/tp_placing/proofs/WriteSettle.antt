@@ -65,9 +65,9 @@ live-part machine now plans net can = record {
 }
 
 -- the schedule that the times make
-pub settled-is : (machine : Machine) (now : ℕ) (plans live new : List Plan) (lines : _) (held : _) (firsts : _) (causes : _) (net : Net) → CanSettle machine now plans → live ≡ filter (is_live machine now) plans → IsLoaded machine now live net lines held firsts causes
+pub settled-is : (machine : Machine) (now : ℕ) (plans live new : List Plan) (timelines : _) (held : _) (firsts : _) (causes : _) (net : Net) → CanSettle machine now plans → live ≡ filter (is_live machine now) plans → IsLoaded machine now live net timelines held firsts causes
     → ((test : Plan → Bool) → AreOfSchedule net live plans test → (t : Ticks) → AreLeastTicks net (table_of live) t → new ≡ map (retimed_in (filter test live) t) plans) → IsSettled machine now plans new
-settled-is machine now plans live new lines held firsts causes net can part l times =
+settled-is machine now plans live new timelines held firsts causes net can part l times =
     let still : filter (is_live machine now) live ≡ live = ap (filter (is_live machine now)) part ∙ live-again machine now plans ∙ sym part in
     let part' : AreOfSchedule net live plans (is_live machine now) = subst (λ ps. AreOfSchedule net ps plans (is_live machine now)) (sym part) (live-part machine now plans net can) in
     let P : List Plan → Type 0 = λ ps. IsLoadedNet machine now (λ _. false) ps (table_of live) net in

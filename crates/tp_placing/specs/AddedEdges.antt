@@ -48,14 +48,14 @@ cause_behind h (Some y) = cause_between h y
 abbrev pub causes_for : Option Held → Held → Option Held → List EdgeCause
 causes_for before h behind = cause_before before h ∷ cause_behind h behind ∷ []
 
--- holds with these slots were put in, one after another, into these orders: that is how the lines stand now, and the edges are
+-- holds with these slots were put in, one after another, into these orders: that is how the timelines stand now, and the edges are
 -- the hops to their neighbours
-pub record HasPut (machine : Machine) (plans : List Plan) (before : ℕ → List Slot) (held : List Held) (lines : List (List ℕ)) (edges : List Edge) (causes : List EdgeCause) (slots : List Slot) : Type 0 where
+pub record HasPut (machine : Machine) (plans : List Plan) (before : ℕ → List Slot) (held : List Held) (timelines : List (List ℕ)) (edges : List Edge) (causes : List EdgeCause) (slots : List Slot) : Type 0 where
   pub puts : List Put
   pub holds : map (λ x. x.slot) puts ≡ slots
   pub within : AreWithin puts before
   pub hops : AreHops plans causes edges (put_hops machine puts before)
-  pub orders : (resource : ℕ) → resource < length machine.resources → AreSlots (table_of plans) held (order_on lines resource) (with_puts puts before resource)
+  pub orders : (resource : ℕ) → resource < length machine.resources → AreSlots (table_of plans) held (order_on timelines resource) (with_puts puts before resource)
 
 -- the end of the last plan before a place that is of the line of the plan there, if there is one
 pub data IsLineEnd (plans : List Plan) (firsts : List PointId) (at : ℕ) (p : Plan) : Option PointId → Type 0 where
@@ -76,11 +76,11 @@ abbrev pub own_edges : Machine → PointId → Plan → Option PointId → List 
 own_edges machine first p before = acts_edges machine first.0 p.acts ++ behind_edge before (point_id (first.0 + length p.acts))
 
 -- the board's parts are those of all its plans but the last, which can be loaded with the others
-pub record IsBehind (machine : Machine) (now : ℕ) (all : List Plan) (n : Net) (lines : List (List ℕ)) (held : List Held) (firsts : List PointId) (last : ℕ) (causes : List EdgeCause) : Type 0 where
+pub record IsBehind (machine : Machine) (now : ℕ) (all : List Plan) (n : Net) (timelines : List (List ℕ)) (held : List Held) (firsts : List PointId) (last : ℕ) (causes : List EdgeCause) : Type 0 where
   pub plans : List Plan
   pub newest : Plan
   pub are : all ≡ with_plan plans newest
   pub can : CanLoad machine now (with_plan plans newest)
   pub loadable : IsLoadable machine now (λ _. false) plans
-  pub loaded : IsLoaded machine now plans n lines held firsts causes
+  pub loaded : IsLoaded machine now plans n timelines held firsts causes
   pub last_point : last ≡ point_count plans

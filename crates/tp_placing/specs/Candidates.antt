@@ -26,10 +26,10 @@ abbrev pub place_step : Step → ℕ → Step
 place_step newest place = record { change = Place place; newest = newest.newest; first = newest.first }
 
 -- the hold was put at a place of its order, and the step is the last one
-pub record HasInserted (newest : Step) (hold : Held) (place : ℕ) (lines lines' : Orders) (holds holds' : List Held) (taken taken' : List Step) : Type 0 where
-  pub orders : lines'.orders ≡ slice_set lines.orders hold.rule.resource.0 (insert (order_on lines.orders hold.rule.resource.0) place (length holds))
-  pub past : lines'.past ≡ lines.past
-  pub hold_capacity : lines'.hold_capacity ≡ lines.hold_capacity
-  pub max_marks : lines'.max_marks ≡ lines.max_marks
+pub record HasInserted (newest : Step) (hold : Held) (place : ℕ) (timelines timelines' : Orders) (holds holds' : List Held) (taken taken' : List Step) : Type 0 where
+  pub orders : timelines'.orders ≡ slice_set timelines.orders hold.rule.resource.0 (insert (order_on timelines.orders hold.rule.resource.0) place (length holds))
+  pub past : timelines'.past ≡ timelines.past
+  pub hold_capacity : timelines'.hold_capacity ≡ timelines.hold_capacity
+  pub max_marks : timelines'.max_marks ≡ timelines.max_marks
   pub held : holds' ≡ holds ++ hold ∷ []
   pub steps : taken' ≡ taken ++ place_step newest place ∷ []

@@ -57,21 +57,21 @@ pub record AreMarks (marks : List BoardMark) (steps held : ℕ) : Type 0 where
   pub held_rise : (j k : ℕ) (m n : BoardMark) → j < k → slice_get marks j ≡ Some m → slice_get marks k ≡ Some n → m.held ≤ n.held
 
 -- as many marks of the network as of the orders and of the board, and one to spare
-pub record IsMarked (pasts max_marks : ℕ) (lines : Orders) (marks : Vec BoardMark Global) (steps held : ℕ) : Type 0 where
+pub record IsMarked (pasts max_marks : ℕ) (timelines : Orders) (marks : Vec BoardMark Global) (steps held : ℕ) : Type 0 where
   pub spare : pasts < max_marks
-  pub line_marks : length lines.past ≡ pasts
-  pub line_capacity : max_marks ≤ lines.max_marks
+  pub line_marks : length timelines.past ≡ pasts
+  pub line_capacity : max_marks ≤ timelines.max_marks
   pub board_marks : length marks.items ≡ pasts
   pub mark_space : max_marks ≤ vec_capacity marks
   pub at_marks : AreMarks marks.items steps held
 
 -- room for all points, edges, holds, steps and plans that there can be
-pub record HasCapacity (max_points max_edges edge_capacity : ℕ) (lines : Orders) (held : Vec Held Global) (begins : Vec Begin Global) (plans : Vec Plan Global) (firsts : Vec PointId Global) (steps : Vec Step Global) (made : Vec Edge Global) (made_for : MadeFor) : Type 0 where
+pub record HasCapacity (max_points max_edges edge_capacity : ℕ) (timelines : Orders) (held : Vec Held Global) (begins : Vec Begin Global) (plans : Vec Plan Global) (firsts : Vec PointId Global) (steps : Vec Step Global) (made : Vec Edge Global) (made_for : MadeFor) : Type 0 where
   pub points : most_points ≤ max_points
   pub edges : most_edges ≤ max_edges
   pub all_edges : edge_capacity ≡ max_edges
-  pub resources : length lines.orders ≡ made_for.resources
-  pub holds : most_holds ≤ lines.hold_capacity
+  pub resources : length timelines.orders ≡ made_for.resources
+  pub holds : most_holds ≤ timelines.hold_capacity
   pub held_few : length held.items ≤ most_holds
   pub held_space : most_holds ≤ vec_capacity held
   pub begin_space : most_holds ≤ vec_capacity begins
@@ -81,7 +81,7 @@ pub record HasCapacity (max_points max_edges edge_capacity : ℕ) (lines : Order
   pub first_space : most_plans ≤ vec_capacity firsts
   pub edge_space : most_edges ≤ vec_capacity made
 
-pub record IsBoard (pasts max_marks max_points max_edges edge_capacity : ℕ) (lines : Orders) (held : Vec Held Global) (begins : Vec Begin Global) (plans : Vec Plan Global) (firsts : Vec PointId Global) (steps : Vec Step Global)
+pub record IsBoard (pasts max_marks max_points max_edges edge_capacity : ℕ) (timelines : Orders) (held : Vec Held Global) (begins : Vec Begin Global) (plans : Vec Plan Global) (firsts : Vec PointId Global) (steps : Vec Step Global)
     (marks : Vec BoardMark Global) (made : Vec Edge Global) (made_for : MadeFor) : Type 0 where
-  pub marked : IsMarked pasts max_marks lines marks (length steps.items) (length held.items)
-  pub capacity : HasCapacity max_points max_edges edge_capacity lines held begins plans firsts steps made made_for
+  pub marked : IsMarked pasts max_marks timelines marks (length steps.items) (length held.items)
+  pub capacity : HasCapacity max_points max_edges edge_capacity timelines held begins plans firsts steps made made_for

@@ -31,19 +31,19 @@ pub record CanLoad (machine : Machine) (now : ℕ) (plans : List Plan) : Type 0 
 
 -- the edges of plans and of the orders of their holds
 abbrev pub all_edges : Machine → List Plan → List (List ℕ) → List Held → List Edge
-all_edges machine plans lines held = plans_edges machine 0 plans ++ (lines_edges 0 plans ++ chains_edges machine step_causes (holds_on held lines) (length machine.resources))
+all_edges machine plans timelines held = plans_edges machine 0 plans ++ (lines_edges 0 plans ++ chains_edges machine step_causes (holds_on held timelines) (length machine.resources))
 
 -- the network is that of the plans, the orders are those of their holds, and the causes those of its edges
-pub record IsLoaded (machine : Machine) (now : ℕ) (plans : List Plan) (n : Net) (lines : List (List ℕ)) (held : List Held) (firsts : List PointId) (causes : List EdgeCause) : Type 0 where
+pub record IsLoaded (machine : Machine) (now : ℕ) (plans : List Plan) (n : Net) (timelines : List (List ℕ)) (held : List Held) (firsts : List PointId) (causes : List EdgeCause) : Type 0 where
   pub net : IsLoadedNet machine now (λ _. false) plans (table_of plans) n
   pub says : SayGaps machine plans n.edges
   pub solved : HasLeast n
   pub hops : (ask : Ask) → All (IsNamedHop machine plans ask no_choices causes) n.edges
   pub safe : All (IsSafe 0) n.edges
   pub plain : ArePlain causes
-  pub orders : (resource : ℕ) → resource < length machine.resources → AreSlots (table_of plans) held (order_on lines resource) (slot_order machine plans resource)
+  pub orders : (resource : ℕ) → resource < length machine.resources → AreSlots (table_of plans) held (order_on timelines resource) (slot_order machine plans resource)
   pub few_edges : length n.edges ≤ loaded_edges
   pub few_holds : length held ≤ loaded_holds
-  pub all_held : total lines ≡ length held
+  pub all_held : total timelines ≡ length held
   pub small : All (λ h. HasSmallOffsets h.rule) held
   pub at_firsts : AreFirsts 0 plans firsts

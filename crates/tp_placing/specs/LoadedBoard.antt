@@ -125,16 +125,16 @@ abbrev pub HasSmallOffsets : HoldRule → Type 0
 HasSmallOffsets rule = IsOffset rule.begin_off × IsOffset rule.end_off
 
 -- the network and the orders are those of the plans with this suffix, if a goal is open, after these steps
-pub record IsAtWith (machine : Machine) (plans : List Plan) (ask : Ask) (x : Option Suffix) (steps : List Step) (n : Net) (lines : List (List ℕ)) (holds : List Held) : Type 0 where
+pub record IsAtWith (machine : Machine) (plans : List Plan) (ask : Ask) (x : Option Suffix) (steps : List Step) (n : Net) (timelines : List (List ℕ)) (holds : List Held) : Type 0 where
   pub net : IsNetOf machine plans ask x n
   pub says : SaysOf machine plans x n
   pub solved : HasLeast n
-  pub orders : (resource : ℕ) → resource < length machine.resources → AreSlots (board_table plans x) holds (order_on lines resource) (order_after machine plans x resource)
+  pub orders : (resource : ℕ) → resource < length machine.resources → AreSlots (board_table plans x) holds (order_on timelines resource) (order_after machine plans x resource)
   pub at_hand : (s : Step) → slice_get steps (length steps - 1) ≡ Some s → IsAtHand (length (table_of plans)) x s
   pub few_steps : AreFewSteps (kept_of ask) x (length steps)
   pub few_edges : length n.edges ≤ loaded_edges + step_edges steps
   pub few_holds : length holds ≤ loaded_holds + length steps
-  pub all_held : total lines ≡ length holds
+  pub all_held : total timelines ≡ length holds
   pub small : All (λ h. HasSmallOffsets h.rule) holds
 
 -- the first points of the plans, one plan after another from a number on
@@ -145,7 +145,7 @@ AreFirsts n (p ∷ plans) [] = ⊥
 AreFirsts n (p ∷ plans) (f ∷ firsts) = (f.0 ≡ n) × AreFirsts (n + suc (length p.acts)) plans firsts
 
 abbrev pub IsAt : Machine → List Plan → Ask → List Step → Net → List (List ℕ) → List Held → Type 0
-IsAt machine plans ask steps n lines holds = IsAtWith machine plans ask (suffix_after steps) steps n lines holds
+IsAt machine plans ask steps n timelines holds = IsAtWith machine plans ask (suffix_after steps) steps n timelines holds
 
 -- each edge of a network after these steps is a hop with its cause, over which no later step writes
 pub record AreCaused (machine : Machine) (plans : List Plan) (ask : Ask) (causes : List EdgeCause) (steps : List Step) (n : Net) : Type 0 where

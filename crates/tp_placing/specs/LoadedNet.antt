@@ -89,7 +89,7 @@ holds_in held (id ∷ ids) = with_hold (slice_get held id) (holds_in held ids)
 
 -- the holds of each resource's order
 abbrev pub holds_on : List Held → List (List ℕ) → ℕ → List Held
-holds_on held lines resource = holds_in held (order_on lines resource)
+holds_on held timelines resource = holds_in held (order_on timelines resource)
 
 -- each number is that of a hold
 abbrev pub AreIds : List Held → List ℕ → Type 0

@@ -75,62 +75,62 @@ fn push_edges(edges: &mut Vec<Edge>, near: &Neighbours, new: &Held, gap: u32, ta
 
 /// Puts a hold into the order of its resource, with the edges to its neighbours.
 fn put_hold(
-    lines: &mut Timelines,
+    timelines: &mut Timelines,
     edges: &mut Vec<Edge>,
     causes: &mut Causes,
     held: &[Held],
     hold: &Held,
     place: Place,
 )
-    requires known { hold.now.rule.resource.0 < length lines.old.orders }
-    requires within { place.at ≤ length (order_on lines.old.orders hold.now.rule.resource.0) }
-    requires ids { AreIds held.now (order_on lines.old.orders hold.now.rule.resource.0) }
-    requires holds { total lines.old.orders < lines.old.hold_capacity }
+    requires known { hold.now.rule.resource.0 < length timelines.old.orders }
+    requires within { place.at ≤ length (order_on timelines.old.orders hold.now.rule.resource.0) }
+    requires ids { AreIds held.now (order_on timelines.old.orders hold.now.rule.resource.0) }
+    requires holds { total timelines.old.orders < timelines.old.hold_capacity }
     requires causes { length causes.old + 2 ≤ most_causes }
     requires edges { vec_len edges.old + 2 ≤ vec_capacity edges.old }
-    ensures lines { lines.new.orders ≡ slice_set lines.old.orders hold.now.rule.resource.0
-        (insert (order_on lines.old.orders hold.now.rule.resource.0) place.at place.number) }
+    ensures timelines { timelines.new.orders ≡ slice_set timelines.old.orders hold.now.rule.resource.0
+        (insert (order_on timelines.old.orders hold.now.rule.resource.0) place.at place.number) }
     ensures edges { edges.new.items ≡ edges.old.items ++ edges_around place.gap
-        (held_before held.now (order_on lines.old.orders hold.now.rule.resource.0) place.at)
+        (held_before held.now (order_on timelines.old.orders hold.now.rule.resource.0) place.at)
         hold.now
-        (held_behind held.now (order_on lines.old.orders hold.now.rule.resource.0) place.at)
+        (held_behind held.now (order_on timelines.old.orders hold.now.rule.resource.0) place.at)
         (length causes.old) }
     ensures causes { causes.new ≡ causes.old ++ causes_for
-        (held_before held.now (order_on lines.old.orders hold.now.rule.resource.0) place.at)
+        (held_before held.now (order_on timelines.old.orders hold.now.rule.resource.0) place.at)
         hold.now
-        (held_behind held.now (order_on lines.old.orders hold.now.rule.resource.0) place.at) }
-    ensures past { lines.new.past ≡ lines.old.past }
-    ensures hold_capacity { lines.new.hold_capacity ≡ lines.old.hold_capacity }
-    ensures marks { lines.new.max_marks ≡ lines.old.max_marks }
+        (held_behind held.now (order_on timelines.old.orders hold.now.rule.resource.0) place.at) }
+    ensures past { timelines.new.past ≡ timelines.old.past }
+    ensures hold_capacity { timelines.new.hold_capacity ≡ timelines.old.hold_capacity }
+    ensures marks { timelines.new.max_marks ≡ timelines.old.max_marks }
     ensures capacity { vec_capacity edges.old ≤ vec_capacity edges.new }
 {
     let resource = hold.rule.resource;
-    let near = neighbours_of(lines, held, resource, place.at);
+    let near = neighbours_of(timelines, held, resource, place.at);
     let tag = push_causes(causes, &near, hold);
     push_edges(edges, &near, hold, place.gap, tag);
-    let Ok(()) = lines.insert(resource, place.at, place.number) else {
+    let Ok(()) = timelines.insert(resource, place.at, place.number) else {
         unreachable!()
     };
 }
 
 /// A place for a hold in the order of its resource: behind the holds that begin before it, as far as the order tells.
-fn place_of(lines: &Timelines, look: Look<'_>, hold: &Held) -> u32
-    requires known { hold.now.rule.resource.0 < length lines.now.orders }
-    requires ids { AreIds look.held.now (order_on lines.now.orders hold.now.rule.resource.0) }
+fn place_of(timelines: &Timelines, look: Look<'_>, hold: &Held) -> u32
+    requires known { hold.now.rule.resource.0 < length timelines.now.orders }
+    requires ids { AreIds look.held.now (order_on timelines.now.orders hold.now.rule.resource.0) }
     requires formed { All HasPoints look.plans.now }
     requires firsts { look.firsts.now ≡ firsts_from 0 look.plans.now }
     requires ticks { length (ticks_in look.plans.now) ≡ length (table_of look.plans.now) }
     requires slots { (slots : List Slot) × AreSlots (table_of look.plans.now) look.held.now
-        (order_on lines.now.orders hold.now.rule.resource.0) slots }
+        (order_on timelines.now.orders hold.now.rule.resource.0) slots }
     requires hold { IsHeldWithin (length (ticks_in look.plans.now)) hold.now }
-    ensures { result ≤ length (order_on lines.now.orders hold.now.rule.resource.0) }
+    ensures { result ≤ length (order_on timelines.now.orders hold.now.rule.resource.0) }
 {
     let resource = hold.rule.resource;
     let count = look.plans.len();
     let tick = begin_at(look.plans, look.firsts, count, hold);
-    let mut place = lines.len(resource);
+    let mut place = timelines.len(resource);
     'back: while place > 0 {
-        let other = &look.held[lines.at(resource, place - 1) as usize];
+        let other = &look.held[timelines.at(resource, place - 1) as usize];
         if begin_at(look.plans, look.firsts, count, other) < tick {
             return place;
         }
@@ -141,24 +141,24 @@ fn place_of(lines: &Timelines, look: Look<'_>, hold: &Held) -> u32
 
 /// Puts the holds from a number on into the orders of their resources, one after another.
 pub(crate) fn put_holds(
-    lines: &mut Timelines,
+    timelines: &mut Timelines,
     edges: &mut Vec<Edge>,
     causes: &mut Causes,
     look: Look<'_>,
     machine: &Machine,
     from: u32,
 )
-    requires resources { length lines.old.orders ≡ length machine.now.resources }
+    requires resources { length timelines.old.orders ≡ length machine.now.resources }
     requires rules { All (λ h. IsRuleOf (length machine.now.resources) h.rule)
         (drop from look.held.now) }
     requires small { All (λ h. HasSmallOffsets h.rule) look.held.now }
     requires orders { (before : ℕ → List Slot)
         × ((r : ℕ) → All (λ s. s.rule.resource.0 ≡ r) (before r))
         × ((r : ℕ) → r < length machine.now.resources
-        → AreSlots (table_of look.plans.now) look.held.now (order_on lines.old.orders r)
+        → AreSlots (table_of look.plans.now) look.held.now (order_on timelines.old.orders r)
         (before r)) }
-    requires ids { (r : ℕ) → r < length lines.old.orders
-        → AreIds look.held.now (order_on lines.old.orders r) }
+    requires ids { (r : ℕ) → r < length timelines.old.orders
+        → AreIds look.held.now (order_on timelines.old.orders r) }
     requires formed { All HasPoints look.plans.now }
     requires firsts { look.firsts.now ≡ firsts_from 0 look.plans.now }
     requires within { All (IsHeldWithin (length (ticks_in look.plans.now)))
@@ -166,8 +166,8 @@ pub(crate) fn put_holds(
     requires ticks { length (ticks_in look.plans.now) ≡ length (table_of look.plans.now) }
     requires from { from ≤ length look.held.now }
     requires few { length look.held.now < 2 ^ 32 }
-    requires holds { total lines.old.orders + (length look.held.now - from)
-        ≤ lines.old.hold_capacity }
+    requires holds { total timelines.old.orders + (length look.held.now - from)
+        ≤ timelines.old.hold_capacity }
     requires base { step_causes ≤ length causes.old }
     requires causes { length causes.old + 2 * (length look.held.now - from) ≤ most_causes }
     requires edges { vec_len edges.old + 2 * (length look.held.now - from)
@@ -175,17 +175,17 @@ pub(crate) fn put_holds(
     ensures put { (before : ℕ → List Slot) → ((r : ℕ) → All (λ s. s.rule.resource.0 ≡ r) (before r))
         → ((r : ℕ) → r < length machine.now.resources
         → AreSlots (table_of look.entry.plans.now) look.entry.held.now
-        (order_on lines.old.orders r) (before r))
+        (order_on timelines.old.orders r) (before r))
         → (es : List Edge) × (edges.new.items ≡ edges.old.items ++ es)
-        × HasPut machine.now look.entry.plans.now before look.entry.held.now lines.new.orders es
+        × HasPut machine.now look.entry.plans.now before look.entry.held.now timelines.new.orders es
         causes.new (map (slot_by (table_of look.entry.plans.now)) (drop from look.entry.held.now)) }
     ensures causes { (more : List CauseValue) × (causes.new ≡ causes.old ++ more) }
-    ensures total { total lines.new.orders
-        ≡ total lines.old.orders + (length look.entry.held.now - from) }
-    ensures resources { length lines.new.orders ≡ length lines.old.orders }
-    ensures past { lines.new.past ≡ lines.old.past }
-    ensures hold_capacity { lines.new.hold_capacity ≡ lines.old.hold_capacity }
-    ensures marks { lines.new.max_marks ≡ lines.old.max_marks }
+    ensures total { total timelines.new.orders
+        ≡ total timelines.old.orders + (length look.entry.held.now - from) }
+    ensures resources { length timelines.new.orders ≡ length timelines.old.orders }
+    ensures past { timelines.new.past ≡ timelines.old.past }
+    ensures hold_capacity { timelines.new.hold_capacity ≡ timelines.old.hold_capacity }
+    ensures marks { timelines.new.max_marks ≡ timelines.old.max_marks }
     ensures few { vec_len edges.new
         ≤ vec_len edges.old + 2 * (length look.entry.held.now - from) }
     ensures capacity { vec_capacity edges.old ≤ vec_capacity edges.new }
@@ -195,8 +195,8 @@ pub(crate) fn put_holds(
         let place = Place {
             number,
             gap: gap_at(machine, hold.rule.resource),
-            at: place_of(lines, look, hold),
+            at: place_of(timelines, look, hold),
         };
-        put_hold(lines, edges, causes, look.held, hold, place);
+        put_hold(timelines, edges, causes, look.held, hold, place);
     }
 }

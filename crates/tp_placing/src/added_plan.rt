@@ -150,7 +150,7 @@ impl<N: Network> Board<N> {
             firsts: &self.firsts,
         };
         put_holds(
-            &mut self.lines,
+            &mut self.timelines,
             &mut self.edges,
             &mut self.causes,
             look,

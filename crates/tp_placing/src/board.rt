@@ -9,7 +9,7 @@ use tp_timelines::Timelines;
 /// A schedule as a network with an order of holds for each resource.
 pub struct Board<N: Network> {
     pub(crate) net: N,
-    pub(crate) lines: Timelines,
+    pub(crate) timelines: Timelines,
     /// The holds that stand in the orders, by their numbers.
     pub(crate) held: Vec<Held>,
     /// Where the holds of a schedule are sorted.
@@ -43,7 +43,7 @@ impl<N: Network + Drop> Drop for Board<N> {
     fn drop(self) {
         let Board {
             net: _,
-            lines: _,
+            timelines: _,
             held: _,
             begins: _,
             plans: _,
@@ -72,10 +72,10 @@ impl<N: Network> Model for Board<N> {
 
     ghost Value = { BoardValue N };
 
-    ghost view = { λ b. board_of b.net b.lines b.held.items b.plans.items b.firsts.items b.last
+    ghost view = { λ b. board_of b.net b.timelines b.held.items b.plans.items b.firsts.items b.last
         b.floor b.horizon b.ask b.steps.items b.marks.items b.made_for b.causes b.limit b.settled };
 
     ghost invariant = { λ b. IsBoard (length (N.reading.past b.net)) (N.reading.max_marks b.net)
-        (N.reading.max_points b.net) (N.reading.max_edges b.net) b.edge_capacity b.lines b.held
+        (N.reading.max_points b.net) (N.reading.max_edges b.net) b.edge_capacity b.timelines b.held
         b.begins b.plans b.firsts b.steps b.marks b.edges b.made_for };
 }

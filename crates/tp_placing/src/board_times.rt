@@ -65,6 +65,6 @@ impl<N: Network> Board<N> {
         ensures { (m : Machine) → Stands N.reading self.now m → result
             ≡ length (order_after m self.now.plans (suffix_of self.now) resource.0) }
     {
-        self.lines.len(resource)
+        self.timelines.len(resource)
     }
 }

@@ -26,26 +26,26 @@ pub(crate) struct Candidate {
 
 /// Puts a hold into its resource's order and to the holds, and adds the step that did it.
 pub(crate) fn insert_hold(
-    lines: &mut Timelines,
+    timelines: &mut Timelines,
     held: &mut Vec<Held>,
     steps: &mut Vec<Step>,
     newest: Step,
     hold: Held,
     place: u32,
 )
-    requires known { hold.rule.resource.0 < length lines.old.orders }
-    requires within { place ≤ length (order_on lines.old.orders hold.rule.resource.0) }
-    requires capacity { total lines.old.orders < lines.old.hold_capacity }
+    requires known { hold.rule.resource.0 < length timelines.old.orders }
+    requires within { place ≤ length (order_on timelines.old.orders hold.rule.resource.0) }
+    requires capacity { total timelines.old.orders < timelines.old.hold_capacity }
     requires few { vec_len held.old < most_holds }
     requires held_space { vec_len held.old < vec_capacity held.old }
     requires step_space { vec_len steps.old < vec_capacity steps.old }
-    ensures inserted { HasInserted newest hold place lines.old lines.new
+    ensures inserted { HasInserted newest hold place timelines.old timelines.new
         held.old.items held.new.items steps.old.items steps.new.items }
     ensures held_space { vec_capacity held.new ≡ vec_capacity held.old }
     ensures step_space { vec_capacity steps.new ≡ vec_capacity steps.old }
 {
     let id = held.len() as u32;
-    let Ok(()) = lines.insert(hold.rule.resource, place, id) else {
+    let Ok(()) = timelines.insert(hold.rule.resource, place, id) else {
         unreachable!()
     };
     held.push_reserved(hold);

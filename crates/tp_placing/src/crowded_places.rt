@@ -210,18 +210,18 @@ fn longer(length: i64, more: i64) -> i64
 /// from the place to the front adds up the lengths of the holds between, and stops where the new one is pushed no more.
 fn begin_behind<N: Network>(
     net: &N,
-    lines: &Timelines,
+    timelines: &Timelines,
     known: Known<'_>,
     new: &Held,
     least: Option<u32>,
     place: u32,
 ) -> i64
-    requires known { new.now.rule.resource.0 < length lines.now.orders }
-    requires there { place < length (order_on lines.now.orders new.now.rule.resource.0) }
+    requires known { new.now.rule.resource.0 < length timelines.now.orders }
+    requires there { place < length (order_on timelines.now.orders new.now.rule.resource.0) }
     requires numbers { All (λ id. id < length known.held.now)
-        (order_on lines.now.orders new.now.rule.resource.0) }
+        (order_on timelines.now.orders new.now.rule.resource.0) }
     requires among { (k : ℕ) (h : Held)
-        → held_behind known.held.now (order_on lines.now.orders new.now.rule.resource.0) k ≡ Some h
+        → held_behind known.held.now (order_on timelines.now.orders new.now.rule.resource.0) k ≡ Some h
         → IsAmong (length (N.reading.net net.now).lows) h }
     requires in_order { IsNonDecreasingBy (λ f. f.0) known.firsts.now }
     requires new { IsAmong (length (N.reading.net net.now).lows) new.now }
@@ -230,9 +230,9 @@ fn begin_behind<N: Network>(
         → ArePlanned known.entry.machine.now known.entry.plans.now known.entry.firsts.now y
         → LastsAtLeast y new.now least
         → IsPutBy y known.entry.held.now
-        (order_on lines.now.orders new.now.rule.resource.0) new.now earlier
+        (order_on timelines.now.orders new.now.rule.resource.0) new.now earlier
         → (h : Held) → held_behind known.entry.held.now
-        (order_on lines.now.orders new.now.rule.resource.0) place ≡ Some h
+        (order_on timelines.now.orders new.now.rule.resource.0) place ≡ Some h
         → result ≤ℤ begin_by y h }
     ensures low { negsuc 4294967295 ≤ℤ result }
     ensures high { result ≤ℤ pos 1099511627776 }
@@ -244,7 +244,7 @@ fn begin_behind<N: Network>(
     let mut rest = 0;
     let mut at = place;
     'walk: while at > 0 {
-        let before = &known.held[lines.at(resource, at - 1) as usize];
+        let before = &known.held[timelines.at(resource, at - 1) as usize];
         let end = end_now(net, before);
         if end <= from {
             break;
@@ -313,10 +313,10 @@ impl<N: Network> Board<N> {
         let next = self.next_hold(machine, hold);
         let resource = next.hold.rule.resource;
         self.limit = None;
-        if place >= self.lines.len(resource) {
+        if place >= self.timelines.len(resource) {
             return false;
         }
-        let behind = self.held[self.lines.at(resource, place) as usize];
+        let behind = self.held[self.timelines.at(resource, place) as usize];
         let known = Known {
             machine,
             held: self.held.as_slice(),
@@ -324,7 +324,7 @@ impl<N: Network> Board<N> {
             firsts: self.firsts.as_slice(),
         };
         let least = least_by_newest(machine, next.newest.newest);
-        let till = begin_behind(&self.net, &self.lines, known, &next.hold, least, place);
+        let till = begin_behind(&self.net, &self.timelines, known, &next.hold, least, place);
         is_pushed(&mut self.net, &behind, till, self.last, limit)
     }
 }

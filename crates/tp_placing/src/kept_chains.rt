@@ -16,27 +16,27 @@ use tp_timelines::Timelines;
 fn add_chain(
     edges: &mut Vec<Edge>,
     causes: &mut Causes,
-    lines: &Timelines,
+    timelines: &Timelines,
     held: &[Held],
     resource: ResId,
     gap: u32,
 )
     requires space { vec_len edges.old + length
-        (chain_edges gap (length causes.old) (holds_on held.now lines.now.orders resource.0))
+        (chain_edges gap (length causes.old) (holds_on held.now timelines.now.orders resource.0))
         ≤ vec_capacity edges.old }
     requires few { length causes.old
-        + length (chain_causes (holds_on held.now lines.now.orders resource.0)) ≤ most_causes }
-    requires known { resource.0 < length lines.now.orders }
-    requires ids { AreIds held.now (order_on lines.now.orders resource.0) }
+        + length (chain_causes (holds_on held.now timelines.now.orders resource.0)) ≤ most_causes }
+    requires known { resource.0 < length timelines.now.orders }
+    requires ids { AreIds held.now (order_on timelines.now.orders resource.0) }
     ensures added { edges.new.items ≡ edges.old.items
-        ++ chain_edges gap (length causes.old) (holds_on held.now lines.now.orders resource.0) }
+        ++ chain_edges gap (length causes.old) (holds_on held.now timelines.now.orders resource.0) }
     ensures causes { causes.new ≡ causes.old
-        ++ chain_causes (holds_on held.now lines.now.orders resource.0) }
+        ++ chain_causes (holds_on held.now timelines.now.orders resource.0) }
     ensures space { vec_capacity edges.old ≤ vec_capacity edges.new }
 {
-    for place in 1..lines.len(resource) {
-        let before = &held[lines.at(resource, place - 1) as usize];
-        let after = &held[lines.at(resource, place) as usize];
+    for place in 1..timelines.len(resource) {
+        let before = &held[timelines.at(resource, place - 1) as usize];
+        let after = &held[timelines.at(resource, place) as usize];
         let tag = causes.push(between(before, after));
         edges.push_reserved(following(gap, before, after, tag));
     }
@@ -46,24 +46,24 @@ fn add_chain(
 pub(crate) fn add_chains(
     edges: &mut Vec<Edge>,
     causes: &mut Causes,
-    lines: &Timelines,
+    timelines: &Timelines,
     held: &[Held],
     machine: &Machine,
     resources: u32,
 )
     requires space { vec_len edges.old + length (chains_edges machine.now (length causes.old)
-        (holds_on held.now lines.now.orders) resources) ≤ vec_capacity edges.old }
+        (holds_on held.now timelines.now.orders) resources) ≤ vec_capacity edges.old }
     requires capacity { length causes.old
-        + length (chains_causes (holds_on held.now lines.now.orders) resources) ≤ most_causes }
-    requires known { resources ≤ length lines.now.orders }
+        + length (chains_causes (holds_on held.now timelines.now.orders) resources) ≤ most_causes }
+    requires known { resources ≤ length timelines.now.orders }
     requires few { resources ≤ most_resources }
     requires ids { (resource : ℕ) → resource < resources
-        → AreIds held.now (order_on lines.now.orders resource) }
+        → AreIds held.now (order_on timelines.now.orders resource) }
     ensures added { edges.new.items ≡ edges.old.items
         ++ chains_edges machine.now (length causes.old)
-        (holds_on held.now lines.now.orders) resources }
+        (holds_on held.now timelines.now.orders) resources }
     ensures causes { causes.new ≡ causes.old
-        ++ chains_causes (holds_on held.now lines.now.orders) resources }
+        ++ chains_causes (holds_on held.now timelines.now.orders) resources }
     ensures space { vec_capacity edges.old ≤ vec_capacity edges.new }
 {
     let mut left = resources;
@@ -71,6 +71,6 @@ pub(crate) fn add_chains(
         left -= 1;
         let resource = ResId(left as u16);
         let gap = gap_at(machine, resource);
-        add_chain(edges, causes, lines, held, resource, gap);
+        add_chain(edges, causes, timelines, held, resource, gap);
     }
 }

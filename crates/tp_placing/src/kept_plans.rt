@@ -54,31 +54,38 @@ fn keep_live(plans: &mut Vec<Plan>, machine: &Machine, schedule: &Schedule, now:
 fn add_edges(
     edges: &mut Vec<Edge>,
     causes: &mut Causes,
-    lines: &Timelines,
+    timelines: &Timelines,
     held: &[Held],
     machine: &Machine,
     plans: &[Plan],
 )
     requires space { vec_len edges.old
-        + length (all_edges machine.now plans.now lines.now.orders held.now)
+        + length (all_edges machine.now plans.now timelines.now.orders held.now)
         ≤ vec_capacity edges.old }
     requires causes { length causes.old ≡ step_causes }
     requires capacity { step_causes
-        + length (chains_causes (holds_on held.now lines.now.orders) (length machine.now.resources))
+        + length (chains_causes (holds_on held.now timelines.now.orders) (length machine.now.resources))
         ≤ most_causes }
     requires fits { point_count plans.now < 2 ^ 32 }
-    requires resources { length lines.now.orders ≡ length machine.now.resources }
-    requires ids { (resource : ℕ) → resource < length lines.now.orders
-        → AreIds held.now (order_on lines.now.orders resource) }
+    requires resources { length timelines.now.orders ≡ length machine.now.resources }
+    requires ids { (resource : ℕ) → resource < length timelines.now.orders
+        → AreIds held.now (order_on timelines.now.orders resource) }
     ensures added { edges.new.items
-        ≡ edges.old.items ++ all_edges machine.now plans.now lines.now.orders held.now }
+        ≡ edges.old.items ++ all_edges machine.now plans.now timelines.now.orders held.now }
     ensures causes { causes.new ≡ causes.old
-        ++ chains_causes (holds_on held.now lines.now.orders) (length machine.now.resources) }
+        ++ chains_causes (holds_on held.now timelines.now.orders) (length machine.now.resources) }
     ensures space { vec_capacity edges.old ≤ vec_capacity edges.new }
 {
     add_durations(edges, machine, plans);
     add_lines(edges, plans);
-    add_chains(edges, causes, lines, held, machine, machine.resources.len());
+    add_chains(
+        edges,
+        causes,
+        timelines,
+        held,
+        machine,
+        machine.resources.len(),
+    );
 }
 
 impl<N: Network> Board<N> {
@@ -101,7 +108,7 @@ impl<N: Network> Board<N> {
         keep_live(&mut self.plans, machine, schedule, now);
         self.net.clear();
         self.causes.clear();
-        self.lines.clear();
+        self.timelines.clear();
         self.held.clear();
         self.firsts.clear();
         self.edges.clear();
@@ -113,7 +120,7 @@ impl<N: Network> Board<N> {
             now + machine.window,
         );
         put_plans(
-            &mut self.lines,
+            &mut self.timelines,
             &mut self.held,
             &mut self.begins,
             &self.plans,
@@ -123,7 +130,7 @@ impl<N: Network> Board<N> {
         add_edges(
             &mut self.edges,
             &mut self.causes,
-            &self.lines,
+            &self.timelines,
             &self.held,
             machine,
             &self.plans,

@@ -97,7 +97,7 @@ impl<N: Network> Board<N> {
         solutions_are_ticks();
         steps_add_edges();
         let next = self.next_hold(machine, hold);
-        let near = neighbours_of(&self.lines, &self.held, next.hold.rule.resource, place);
+        let near = neighbours_of(&self.timelines, &self.held, next.hold.rule.resource, place);
         self.limit = None;
         note_neighbours(&mut self.causes, &near, &next.hold, next.tag);
         neighbour_edges(&mut self.edges, &near, &next.hold, next.gap, next.tag);
@@ -106,7 +106,7 @@ impl<N: Network> Board<N> {
             Err(Late) => return Err(Late),
         }
         insert_hold(
-            &mut self.lines,
+            &mut self.timelines,
             &mut self.held,
             &mut self.steps,
             next.newest,

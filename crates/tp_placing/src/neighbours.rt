@@ -12,13 +12,13 @@ use tp_machine::ResId;
 use tp_timelines::Timelines;
 
 /// The hold at a place of a resource's order.
-fn held_at(lines: &Timelines, held: &[Held], resource: ResId, place: u32) -> Option<Held>
-    requires known { resource.0 < length lines.now.orders }
-    requires numbers { All (λ id. id < length held.now) (order_on lines.now.orders resource.0) }
-    ensures { result ≡ held_of held.now (slice_get (order_on lines.now.orders resource.0) place) }
+fn held_at(timelines: &Timelines, held: &[Held], resource: ResId, place: u32) -> Option<Held>
+    requires known { resource.0 < length timelines.now.orders }
+    requires numbers { All (λ id. id < length held.now) (order_on timelines.now.orders resource.0) }
+    ensures { result ≡ held_of held.now (slice_get (order_on timelines.now.orders resource.0) place) }
 {
-    if place < lines.len(resource) {
-        Some(held[lines.at(resource, place) as usize])
+    if place < timelines.len(resource) {
+        Some(held[timelines.at(resource, place) as usize])
     } else {
         None
     }
@@ -33,26 +33,26 @@ pub(crate) struct Neighbours {
 
 /// The holds before and behind a place of a resource's order.
 pub(crate) fn neighbours_of(
-    lines: &Timelines,
+    timelines: &Timelines,
     held: &[Held],
     resource: ResId,
     place: u32,
 ) -> Neighbours
-    requires known { resource.0 < length lines.now.orders }
-    requires numbers { All (λ id. id < length held.now) (order_on lines.now.orders resource.0) }
+    requires known { resource.0 < length timelines.now.orders }
+    requires numbers { All (λ id. id < length held.now) (order_on timelines.now.orders resource.0) }
     ensures before { result.before
-        ≡ held_before held.now (order_on lines.now.orders resource.0) place }
+        ≡ held_before held.now (order_on timelines.now.orders resource.0) place }
     ensures behind { result.behind
-        ≡ held_behind held.now (order_on lines.now.orders resource.0) place }
+        ≡ held_behind held.now (order_on timelines.now.orders resource.0) place }
 {
     let before = if place > 0 {
-        held_at(lines, held, resource, place - 1)
+        held_at(timelines, held, resource, place - 1)
     } else {
         None
     };
     Neighbours {
         before,
-        behind: held_at(lines, held, resource, place),
+        behind: held_at(timelines, held, resource, place),
     }
 }
 

@@ -46,7 +46,7 @@ impl<N: Network + Drop> Board<N> {
         };
         Ok(Board {
             net,
-            lines: Timelines::new(alloc, made_for.resources, HOLDS, marks)?,
+            timelines: Timelines::new(alloc, made_for.resources, HOLDS, marks)?,
             held: Vec::with_capacity(alloc, HOLDS as usize)?,
             begins: Vec::with_capacity(alloc, HOLDS as usize)?,
             plans: Vec::with_capacity(alloc, PLANS)?,

@@ -166,7 +166,7 @@ impl<N: Network> Board<N> {
         walks_add_edges();
         walks_are_hops();
         let next = self.next_hold(machine, hold);
-        let near = neighbours_of(&self.lines, &self.held, next.hold.rule.resource, place);
+        let near = neighbours_of(&self.timelines, &self.held, next.hold.rule.resource, place);
         self.limit = None;
         note_neighbours(&mut self.causes, &near, &next.hold, next.tag);
         match require_around(&mut self.net, &near, &next.hold, next.gap, next.tag) {
@@ -174,7 +174,7 @@ impl<N: Network> Board<N> {
             Err(refused) => return Err(refused),
         }
         insert_hold(
-            &mut self.lines,
+            &mut self.timelines,
             &mut self.held,
             &mut self.steps,
             next.newest,

@@ -25,7 +25,7 @@ impl<N: Network> Undo for Board<N> {
 
     fn mark(&mut self) -> Mark {
         let mark = self.net.mark();
-        let _line_mark = self.lines.mark();
+        let _line_mark = self.timelines.mark();
         let counts = BoardMark {
             steps: self.steps.len() as u32,
             held: self.held.len() as u32,
@@ -36,7 +36,7 @@ impl<N: Network> Undo for Board<N> {
 
     fn undo_to(&mut self, mark: Mark) {
         self.net.undo_to(mark);
-        self.lines.undo_to(mark);
+        self.timelines.undo_to(mark);
         let counts = self.marks[mark.0 as usize];
         self.held.truncate(counts.held as usize);
         self.steps.truncate(counts.steps as usize);

@@ -5,7 +5,7 @@ use Rattle.tp_outside.specs.Outside.{Files, file_at}
 use Rattle.tp_command.specs.Form.{Asked, form}
 use Rattle.tp_command.specs.declared.request.Mode.{Mode}
 use Rattle.tp_command.specs.declared.request.Mode.TheVariants.{Run, Save, Resume, Check, Soak, Compose, Farm}
-use Rattle.tp_session_standing.specs.Told.{told as state_told}
+use Rattle.tp_session_standing.specs.StandingStates.{standing_state}
 use Rattle.tp_program.specs.Checks.{CheckEnds}
 use Rattle.tp_program.specs.ComposeEnds.{ComposeEnds}
 use Rattle.tp_program.specs.FarmEnds.{NoneListedMissing, FarmEnds}
@@ -66,7 +66,7 @@ module _ (words : List (List ℕ)) (asked : Asked) (named : form words ≡ Some 
     no_usage Save (inl none) = none.0
     no_usage Save (inr ran) = ran.did
     no_usage Resume (inl none) = none.0
-    no_usage Resume (inr ran) = ran.did (state_told ran.machine ran.standing) ran.whole
+    no_usage Resume (inr ran) = ran.did (standing_state ran.machine ran.standing) ran.whole
     no_usage Compose (same, inl none) = none.0
     no_usage Compose (same, inr wrote) = wrote.has.1
     no_usage Farm (inl none) = none.0

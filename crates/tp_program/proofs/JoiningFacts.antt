@@ -5,7 +5,7 @@ use Rattle.tp_machine.specs.declared.machine.Machine.{Machine}
 use Rattle.tp_jobs.specs.declared.standing.Standing as kept
 use Rattle.tp_script.specs.Lines.{line_event}
 use Rattle.tp_snapshot.specs.Laws.{OneIsRead}
-use Rattle.tp_session_standing.specs.Told.{standing_of, told as state_told}
+use Rattle.tp_session_standing.specs.StandingStates.{standing_of, standing_state}
 use Rattle.tp_stream.specs.Takes.{IsWritten}
 use Rattle.tp_event_rules.specs.States.{SessionState, empty_state}
 use Rattle.tp_words.specs.Texts.{lines_of}
@@ -37,15 +37,15 @@ module _ (machine : Machine) (budget : ℕ) (bounds : Bool) (join : RunsJoin mac
       )
 
   -- what the snapshot tells is the live part of the last state
-  behind : IsWhole machine saved.ends.run.last (state_told machine (standing_of machine saved.live))
+  behind : IsWhole machine saved.ends.run.last (standing_state machine (standing_of machine saved.live))
   behind = subst (IsWhole machine saved.ends.run.last) (sym saved.ends.as_told) saved.ends.run.behind
 
   told-joined : (told_machine : Machine) (standing : kept.Standing) → machine ≡ told_machine → standing_of machine saved.live ≡ standing
-      → ((start : SessionState) → IsWhole told_machine start (state_told told_machine standing) → IsAnswered told_machine budget bounds start more taken taken')
+      → ((start : SessionState) → IsWhole told_machine start (standing_state told_machine standing) → IsAnswered told_machine budget bounds start more taken taken')
       → IsAnswered machine budget bounds saved.ends.run.last more taken taken'
   told-joined told_machine standing same_machine same_standing answered =
-      subst (λ m. ((start : SessionState) → IsWhole m start (state_told m standing) → IsAnswered m budget bounds start more taken taken')) (sym same_machine) answered saved.ends.run.last
-      (subst (λ t. IsWhole machine saved.ends.run.last (state_told machine t)) same_standing behind)
+      subst (λ m. ((start : SessionState) → IsWhole m start (standing_state m standing) → IsAnswered m budget bounds start more taken taken')) (sym same_machine) answered saved.ends.run.last
+      (subst (λ t. IsWhole machine saved.ends.run.last (standing_state machine t)) same_standing behind)
 
 pub resumed-join : OneIsRead → ((machine : Machine) (budget : ℕ) (bounds : Bool) → RunsJoin machine budget bounds) → ((machine : Machine) (budget : ℕ) (bounds : Bool) → FirstRunsAreLawful machine budget bounds)
     → ResumedLogsJoin

@@ -7,7 +7,7 @@ use Rattle.tp_snapshot.specs.Laws.{OneVerdict}
 use Rattle.tp_snapshot.specs.Rules.{IsBrokenAt}
 use Rattle.tp_snapshot.specs.Texts.{IsNotJson}
 use Rattle.tp_snapshot.specs.declared.fault.SnapFault.TheVariants as snap
-use Rattle.tp_session_standing.specs.Told.{told as state_told}
+use Rattle.tp_session_standing.specs.StandingStates.{standing_state}
 use Rattle.tp_program.specs.InOrder.{is_refusal}
 use Rattle.tp_program.specs.ResumeEnds.{IsSaved, NoSnapshot, ResumesOn, most_snapshot}
 use Rattle.tp_program.specs.ResumesInOrder.{IsResumeInOrder, NoResumeIsRefused}
@@ -40,16 +40,16 @@ module _ (verdict : OneVerdict) (words : List (List ℕ)) (files : Files) (scrip
 
   answered : (s : Status) → IsTrue (is_refusal s) → (left taken taken' : Option (List ℕ)) → ¬ ResumesOn (Some files) asked (Some script) left taken taken' s
   answered (status.TooLong (size.Line n)) is left taken taken' ran =
-      let (read, (after, whole, rest_left), to) = ran.did (state_told ran.machine ran.standing) ran.whole in
+      let (read, (after, whole, rest_left), to) = ran.did (standing_state ran.machine ran.standing) ran.whole in
       not_too_long 4096 script read to.done to.rest after good.lines_fit whole to.parts to.whole to.stops.0
   answered (status.TooLong size.Lines) is left taken taken' ran =
-      let (read, (after, whole, rest_left), to) = ran.did (state_told ran.machine ran.standing) ran.whole in
+      let (read, (after, whole, rest_left), to) = ran.did (standing_state ran.machine ran.standing) ran.whole in
       not_too_many 1000000 script read to.done to.rest after good.few whole to.parts to.whole to.stops.0 to.stops.1
   answered status.Done is left taken taken' ran = absurd cc
   answered status.Memory is left taken taken' ran = absurd cc
   answered status.Source is left taken taken' ran = absurd cc
   answered status.Sink is left taken taken' ran = absurd cc
-  answered s is left taken taken' ran = ran.did (state_told ran.machine ran.standing) ran.whole
+  answered s is left taken taken' ran = ran.did (standing_state ran.machine ran.standing) ran.whole
 
 pub no_resume_is_refused : OneVerdict → NoResumeIsRefused
 no_resume_is_refused verdict words files script asked good = record {

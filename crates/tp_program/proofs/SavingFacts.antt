@@ -11,7 +11,7 @@ use Rattle.tp_session.specs.Sessions.{Standing, Tells, start_of}
 use Rattle.tp_snapshot.specs.Rules.{IsSnapshot}
 use Rattle.tp_snapshot.specs.Texts.{IsWritten as IsText}
 use Rattle.tp_session_standing.specs.Sound.{IsSound}
-use Rattle.tp_session_standing.specs.Told.{standing_of}
+use Rattle.tp_session_standing.specs.StandingStates.{standing_of}
 use Rattle.tp_stream.specs.Scripts.{IsStopped, IsTaken}
 use Rattle.tp_stream.specs.Takes.{IsWritten}
 use Rattle.tp_stream.specs.declared.stop.Stop.{Stop}

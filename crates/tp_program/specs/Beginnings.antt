@@ -6,12 +6,12 @@ use Rattle.tp_jobs.specs.declared.standing.Standing as kept
 use Rattle.tp_session.specs.GoingOn.{stands_at}
 use Rattle.tp_session.specs.Sessions.{Standing}
 use Rattle.tp_session_standing.specs.Sound.{IsSound}
-use Rattle.tp_session_standing.specs.Told.{told}
+use Rattle.tp_session_standing.specs.StandingStates.{standing_state}
 use Rattle.tp_event_rules.specs.States.{SessionState, empty_state}
 
 abbrev pub first_state : Machine → Option kept.Standing → SessionState
 first_state machine None = empty_state
-first_state machine (Some t) = told machine t
+first_state machine (Some t) = standing_state machine t
 
 -- where a session on the machine stands that begins there
 abbrev pub begun : Machine → Option ℕ → Bool → Option kept.Standing → Standing

@@ -5,7 +5,7 @@ use Rattle.tp_machine.specs.declared.machine.Machine.{Machine}
 use Rattle.tp_jobs.specs.declared.standing.Standing as kept
 use Rattle.tp_script.specs.Lines.{line_event}
 use Rattle.tp_snapshot.specs.Rules.{IsSnapshot}
-use Rattle.tp_session_standing.specs.Told.{told as state_told}
+use Rattle.tp_session_standing.specs.StandingStates.{standing_state}
 use Rattle.tp_stream.specs.Takes.{IsWritten}
 use Rattle.tp_event_rules.specs.States.{SessionState}
 use Rattle.tp_words.specs.Texts.{lines_of}
@@ -19,6 +19,6 @@ use Rattle.tp_program.specs.SaveEnds.{HasSavedLine}
 abbrev pub ResumedLogsJoin : Type 0
 ResumedLogsJoin = (machine told_machine : Machine) (standing : kept.Standing) (budget : ℕ) (bounds : Bool) (script more : List ℕ) (taken taken' : Option (List ℕ))
     → (saved : HasSavedLine machine budget bounds script) → IsSnapshot saved.saved.snapshot told_machine standing
-    → ((start : SessionState) → IsWhole told_machine start (state_told told_machine standing) → IsAnswered told_machine budget bounds start more taken taken')
+    → ((start : SessionState) → IsWhole told_machine start (standing_state told_machine standing) → IsAnswered told_machine budget bounds start more taken taken')
     → (text : List ℕ) × IsWritten taken text taken'
     × IsRunOf machine budget bounds (filter_map line_event (lines_of script) ++ filter_map line_event (lines_of more)) (saved.ends.text ++ text)

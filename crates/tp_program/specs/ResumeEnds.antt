@@ -9,7 +9,7 @@ use Rattle.tp_snapshot.specs.Rules.{IsBrokenAt, IsSnapshot}
 use Rattle.tp_snapshot.specs.Texts.{IsNotJson}
 use Rattle.tp_snapshot.specs.declared.fault.SnapFault.TheVariants.{NotJson, Rule}
 use Rattle.tp_session_standing.specs.Sound.{IsSound}
-use Rattle.tp_session_standing.specs.Told.{told as state_told}
+use Rattle.tp_session_standing.specs.StandingStates.{standing_state}
 use Rattle.tp_event_rules.specs.States.{SessionState}
 use Rattle.tp_run_laws.specs.Wholes.{IsWhole}
 use Rattle.tp_program.specs.Runs.{EndsOn}
@@ -48,8 +48,8 @@ pub record ResumesOn (told : Option Files) (asked : Asked) (left left' taken tak
   pub standing : kept.Standing
   pub snapshot : IsSaved told asked.arg (λ text. IsSnapshot text machine standing)
   pub sound : IsSound machine standing
-  pub whole : IsWhole machine (state_told machine standing) (state_told machine standing)
-  pub did : (start : SessionState) → IsWhole machine start (state_told machine standing)
+  pub whole : IsWhole machine (standing_state machine standing) (standing_state machine standing)
+  pub did : (start : SessionState) → IsWhole machine start (standing_state machine standing)
       → EndsOn machine (unwrap_or asked.budget machine.budget) asked.bounds start left left' taken taken' status
 
 -- how it ends: there is no snapshot, and nothing is read or written; or it ran

@@ -8,7 +8,7 @@ use Rattle.tp_jobs.specs.declared.standing.Standing as kept
 use Rattle.tp_session.specs.SessionEnds.{EndsSoundly}
 use Rattle.tp_snapshot.specs.Rules.{IsSnapshot}
 use Rattle.tp_snapshot.specs.Texts.{IsWritten as IsWrittenFor}
-use Rattle.tp_session_standing.specs.Told.{standing_of}
+use Rattle.tp_session_standing.specs.StandingStates.{standing_of}
 use Rattle.tp_stream.specs.Takes.{IsReadFrom, IsWritten}
 use Rattle.tp_stream.specs.declared.stop.Stop.{Stop}
 use Rattle.tp_stream.specs.declared.stop.Stop.TheVariants as stop

@@ -14,12 +14,12 @@ use tp_outside::{Failed, Shelf, Sink, write_all};
 
 /// The machine text that is composed of the rack text of this name. An `Err` is the status that composing ends with.
 fn composed<H: Shelf>(alloc: Global, shelf: &mut H, name: &str) -> Result<Vec<u8>, Status>
-    ensures composed { IfOk result (λ bytes. IsShelved (H.told shelf.old) name.now
+    ensures composed { IfOk result (λ bytes. IsShelved (H.known shelf.old) name.now
         (λ text. IsSoundRack text × IsComposed text bytes.items)) }
-    ensures none { IfErr result (NoRack (H.told shelf.old) name.now) }
+    ensures none { IfErr result (NoRack (H.known shelf.old) name.now) }
     ensures shelf { IfErr result (λ s. s ≡ Status.Shelf
         → Rises (H.faults shelf.old) (H.faults shelf.new)) }
-    ensures amiss { IfErr result (λ s. s ≡ Status.Shelf → IfSome (H.told shelf.old) (λ files.
+    ensures amiss { IfErr result (λ s. s ≡ Status.Shelf → IfSome (H.known shelf.old) (λ files.
         IsSome (file_at files name.now) → Rises (H.amiss shelf.old) (H.amiss shelf.new))) }
 {
     let text = match find_text(alloc, shelf, name) {
@@ -42,11 +42,11 @@ pub(crate) fn compose_to<H: Shelf, K: Sink>(
     shelf: &mut H,
     sink: &mut K,
 ) -> Status
-    ensures ends { (NoRack (H.told shelf.old) name.now result × (sink.new ≡ sink.old))
-        ⊎ WritesComposed (H.told shelf.old) name.now (K.taken sink.old) (K.taken sink.new)
+    ensures ends { (NoRack (H.known shelf.old) name.now result × (sink.new ≡ sink.old))
+        ⊎ WritesComposed (H.known shelf.old) name.now (K.taken sink.old) (K.taken sink.new)
         result }
     ensures shelf { result ≡ Status.Shelf → Rises (H.faults shelf.old) (H.faults shelf.new) }
-    ensures amiss { result ≡ Status.Shelf → IfSome (H.told shelf.old) (λ files.
+    ensures amiss { result ≡ Status.Shelf → IfSome (H.known shelf.old) (λ files.
         IsSome (file_at files name.now) → Rises (H.amiss shelf.old) (H.amiss shelf.new)) }
     ensures sink { result ≡ Status.Sink → Rises (K.faults sink.old) (K.faults sink.new) }
 {

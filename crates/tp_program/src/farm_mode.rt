@@ -56,10 +56,10 @@ pub(crate) fn farm<H: Shelf, S: Source, K: Sink>(
     source: &mut S,
     sink: &mut K,
 ) -> Status
-    ensures ends { FarmEnds S.left K.taken (H.told shelf.old) source.old source.new sink.old
+    ensures ends { FarmEnds S.left K.taken (H.known shelf.old) source.old source.new sink.old
         sink.new (seen request.now) result }
     ensures shelf { result ≡ Status.Shelf → Rises (H.faults shelf.old) (H.faults shelf.new) }
-    ensures amiss { result ≡ Status.Shelf → IfSome (H.told shelf.old) (λ files.
+    ensures amiss { result ≡ Status.Shelf → IfSome (H.known shelf.old) (λ files.
         IsSome (file_at files request.now.arg.now) → NoneListedMissing files request.now.arg.now
         → Rises (H.amiss shelf.old) (H.amiss shelf.new)) }
     ensures source { result ≡ Status.Source

@@ -20,15 +20,15 @@ pub(crate) fn find_machine<H: Shelf>(
     name: &str,
 ) -> Result<Machine, Status>
     ensures found { IfOk result (λ machine.
-        IsShelved (H.told shelf.old) name.now (λ text. IsMachineText text machine)) }
-    ensures none { IfErr result (NoMachine (H.told shelf.old) name.now) }
+        IsShelved (H.known shelf.old) name.now (λ text. IsMachineText text machine)) }
+    ensures none { IfErr result (NoMachine (H.known shelf.old) name.now) }
     ensures shelf { IfErr result (λ s. s ≡ Status.Shelf
         → Rises (H.faults shelf.old) (H.faults shelf.new)) }
-    ensures amiss { IfErr result (λ s. s ≡ Status.Shelf → IfSome (H.told shelf.old) (λ files.
+    ensures amiss { IfErr result (λ s. s ≡ Status.Shelf → IfSome (H.known shelf.old) (λ files.
         IsSome (file_at files name.now) → Rises (H.amiss shelf.old) (H.amiss shelf.new))) }
-    ensures told_stays { H.told shelf.new ≡ H.told shelf.old }
+    ensures told_stays { H.known shelf.new ≡ H.known shelf.old }
     ensures counted { IsCounted (H.faults shelf.old) (H.faults shelf.new) }
-    ensures not_amiss { OnOk result (IfSome (H.told shelf.old)
+    ensures not_amiss { OnOk result (IfSome (H.known shelf.old)
         (λ _. H.amiss shelf.new ≡ H.amiss shelf.old)) }
 {
     let text = match find_text(alloc, shelf, name) {

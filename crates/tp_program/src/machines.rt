@@ -47,16 +47,16 @@ fn find_session<H: Shelf>(
     settings: Settings,
 ) -> Result<Session, Status>
     ensures begins { IfOk result (λ session.
-        BeginsOn (H.told shelf.old) settings.budget settings.bounds name.now session.standing) }
+        BeginsOn (H.known shelf.old) settings.budget settings.bounds name.now session.standing) }
     ensures fresh { IfOk result (λ session. (session.text ≡ []) × (session.answered ≡ 0)) }
-    ensures none { IfErr result (NoMachine (H.told shelf.old) name.now) }
+    ensures none { IfErr result (NoMachine (H.known shelf.old) name.now) }
     ensures shelf { IfErr result (λ s. s ≡ Status.Shelf
         → Rises (H.faults shelf.old) (H.faults shelf.new)) }
-    ensures amiss { IfErr result (λ s. s ≡ Status.Shelf → IfSome (H.told shelf.old) (λ files.
+    ensures amiss { IfErr result (λ s. s ≡ Status.Shelf → IfSome (H.known shelf.old) (λ files.
         IsSome (file_at files name.now) → Rises (H.amiss shelf.old) (H.amiss shelf.new))) }
-    ensures told_stays { H.told shelf.new ≡ H.told shelf.old }
+    ensures told_stays { H.known shelf.new ≡ H.known shelf.old }
     ensures counted { IsCounted (H.faults shelf.old) (H.faults shelf.new) }
-    ensures not_amiss { OnOk result (IfSome (H.told shelf.old)
+    ensures not_amiss { OnOk result (IfSome (H.known shelf.old)
         (λ _. H.amiss shelf.new ≡ H.amiss shelf.old)) }
 {
     let machine = match find_machine(alloc, shelf, name) {
@@ -78,14 +78,14 @@ fn find_sessions<H: Shelf>(
 ) -> Result<Vec<Session>, Status>
     requires { length names.now ≤ 8 }
     ensures begin { IfOk result (λ sessions.
-        AllZip (BeginsOn (H.told shelf.old) settings.budget settings.bounds) (shown names.now)
+        AllZip (BeginsOn (H.known shelf.old) settings.budget settings.bounds) (shown names.now)
         (map (λ s. s.standing) sessions.items)) }
     ensures fresh { IfOk result (λ sessions.
         All (λ s. (s.text ≡ []) × (s.answered ≡ 0)) sessions.items) }
-    ensures none { IfErr result (NoMachines (H.told shelf.old) (shown names.now)) }
+    ensures none { IfErr result (NoMachines (H.known shelf.old) (shown names.now)) }
     ensures shelf { IfErr result (λ s. s ≡ Status.Shelf
         → Rises (H.faults shelf.old) (H.faults shelf.new)) }
-    ensures amiss { IfErr result (λ s. s ≡ Status.Shelf → IfSome (H.told shelf.old) (λ files.
+    ensures amiss { IfErr result (λ s. s ≡ Status.Shelf → IfSome (H.known shelf.old) (λ files.
         NoneMissing files (shown names.now) → Rises (H.amiss shelf.old) (H.amiss shelf.new))) }
 {
     let mut sessions = Vec::new(alloc);
@@ -107,13 +107,13 @@ pub(crate) fn find_farm<H: Shelf>(
     request: &Request<'_>,
     shelf: &mut H,
 ) -> Result<Farm<Session>, Status>
-    ensures found { IfOk result (λ farm. IsFarmFor (H.told shelf.old) (seen request.now)
+    ensures found { IfOk result (λ farm. IsFarmFor (H.known shelf.old) (seen request.now)
         (state_of (λ s. s.standing) farm)) }
     ensures fresh { IfOk result (λ farm. farm.lines ≡ 0) }
-    ensures none { IfErr result (NoFarm (H.told shelf.old) request.now.arg.now) }
+    ensures none { IfErr result (NoFarm (H.known shelf.old) request.now.arg.now) }
     ensures shelf { IfErr result (λ s. s ≡ Status.Shelf
         → Rises (H.faults shelf.old) (H.faults shelf.new)) }
-    ensures amiss { IfErr result (λ s. s ≡ Status.Shelf → IfSome (H.told shelf.old) (λ files.
+    ensures amiss { IfErr result (λ s. s ≡ Status.Shelf → IfSome (H.known shelf.old) (λ files.
         IsSome (file_at files request.now.arg.now) → NoneListedMissing files request.now.arg.now
         → Rises (H.amiss shelf.old) (H.amiss shelf.new))) }
 {

@@ -36,11 +36,11 @@ fn answer<H: Shelf, S: Source, K: Sink>(
     sink: &mut K,
 ) -> Status
     requires { request.now.mode ≡ Soak → IsSome (seed_in request.now.arg.now) }
-    ensures ends { Ends S.left K.taken (H.told shelf.old) source.old source.new sink.old sink.new
+    ensures ends { Ends S.left K.taken (H.known shelf.old) source.old source.new sink.old sink.new
         (seen request.now) result }
     ensures unread { request.now.mode ≡ Soak → shelf.new ≡ shelf.old }
     ensures shelf { result ≡ Status.Shelf → Rises (H.faults shelf.old) (H.faults shelf.new) }
-    ensures amiss { result ≡ Status.Shelf → IfSome (H.told shelf.old) (λ files.
+    ensures amiss { result ≡ Status.Shelf → IfSome (H.known shelf.old) (λ files.
         IsThereFor files (seen request.now) → Rises (H.amiss shelf.old) (H.amiss shelf.new)) }
     ensures source { result ≡ Status.Source
         → Rises (S.faults source.old) (S.faults source.new) }
@@ -76,39 +76,39 @@ pub fn printer_main<H: Shelf, S: Source, K: Sink>(
     // What each status says of a run: with `Done` the source was read to its end, and the sink took the text of the log that
     // answers the script's events by a lawful run on the machine; with any other that text for the first lines, up to the cause.
     ensures run { Asks Run (map string_bytes words.now)
-        (λ asked. RunEnds S.left K.taken (H.told shelf.old) source.old source.new sink.old sink.new
+        (λ asked. RunEnds S.left K.taken (H.known shelf.old) source.old source.new sink.old sink.new
         asked result) }
 
     // And of checking: with `Done` the source was read to its end, what it gave is the text of a log that is lawful with bounds, but
     // for the causes of its budgets, and the sink took the one line of its counts. With `Rejected`, as with any other status, the
     // first lines were those of such a log so far, and nothing is written.
     ensures check { Asks Check (map string_bytes words.now)
-        (λ asked. CheckEnds S.left K.taken (H.told shelf.old) source.old source.new
+        (λ asked. CheckEnds S.left K.taken (H.known shelf.old) source.old source.new
         sink.old sink.new
         asked result) }
 
     // And of a run that is saved: with `Done` behind that text stands one line, a snapshot of the machine and of where the run ended.
     ensures save { Asks Save (map string_bytes words.now)
-        (λ asked. SaveEnds S.left K.taken (H.told shelf.old) source.old source.new
+        (λ asked. SaveEnds S.left K.taken (H.known shelf.old) source.old source.new
         sink.old sink.new
         asked result) }
 
     // And of a run that is resumed: with `Done` it is as of a run, on the machine of the snapshot and from where its standing says.
     ensures resume { Asks Resume (map string_bytes words.now)
-        (λ asked. ResumeEnds S.left K.taken (H.told shelf.old) source.old source.new
+        (λ asked. ResumeEnds S.left K.taken (H.known shelf.old) source.old source.new
         sink.old sink.new
         asked result) }
 
     // And of composing: with `Done` the sink took a machine text of the machine that the rack comes to.
     ensures compose { Asks Compose (map string_bytes words.now)
-        (λ asked. ComposeEnds K.taken (H.told shelf.old) source.old source.new sink.old sink.new
+        (λ asked. ComposeEnds K.taken (H.known shelf.old) source.old source.new sink.old sink.new
         asked result) }
 
     // And of a farm: with `Done` the source was read to its end, and the sink took what its machines told, each line with the
     // machine's number. Of each machine the lines without it are the text of the log that answers, by a lawful run, the events
     // that it was sent.
     ensures farm { Asks Farm (map string_bytes words.now)
-        (λ asked. FarmEnds S.left K.taken (H.told shelf.old) source.old source.new
+        (λ asked. FarmEnds S.left K.taken (H.known shelf.old) source.old source.new
         sink.old sink.new
         asked result) }
 
@@ -119,7 +119,7 @@ pub fn printer_main<H: Shelf, S: Source, K: Sink>(
 
     // The outside failed.
     ensures shelf { result ≡ Status.Shelf → Rises (H.faults shelf.old) (H.faults shelf.new) }
-    ensures amiss { result ≡ Status.Shelf → IfSome (H.told shelf.old) (λ files.
+    ensures amiss { result ≡ Status.Shelf → IfSome (H.known shelf.old) (λ files.
         IfSome (form (map string_bytes words.now)) (λ asked. IsThereFor files asked
         → Rises (H.amiss shelf.old) (H.amiss shelf.new))) }
     ensures source { result ≡ Status.Source

@@ -8,7 +8,7 @@ ghost use Rattle.tp_program.specs.Runs.{EndsOn};
 ghost use Rattle.tp_run_laws.specs.Wholes.{IsWhole};
 ghost use Rattle.tp_snapshot.specs.Rules.{IsSnapshot};
 ghost use Rattle.tp_session_standing.specs.Sound.{IsSound};
-ghost use Rattle.tp_session_standing.specs.Told.{told as state_told};
+ghost use Rattle.tp_session_standing.specs.StandingStates.{standing_state};
 ghost use Rattle.tp_event_rules.specs.States.{SessionState};
 
 use crate::session::{Beginning, run_on};
@@ -24,13 +24,13 @@ const MOST_BYTES: usize = 134_217_728;
 
 /// Reads the bytes of this name. An `Err` is the status that all ends with.
 fn find_bytes<H: Shelf>(alloc: Global, shelf: &mut H, name: &str) -> Result<Vec<u8>, Status>
-    ensures told { IfOk result (λ text. IfSome (H.told shelf.old)
+    ensures told { IfOk result (λ text. IfSome (H.known shelf.old)
         (λ files. file_at files name.now ≡ Some text.items)) }
     ensures fits { IfOk result (λ text. length text.items ≤ most_snapshot) }
-    ensures none { IfErr result (NoSnapshot (H.told shelf.old) name.now) }
+    ensures none { IfErr result (NoSnapshot (H.known shelf.old) name.now) }
     ensures shelf { IfErr result (λ s. s ≡ Status.Shelf
         → Rises (H.faults shelf.old) (H.faults shelf.new)) }
-    ensures amiss { IfErr result (λ s. s ≡ Status.Shelf → IfSome (H.told shelf.old) (λ files.
+    ensures amiss { IfErr result (λ s. s ≡ Status.Shelf → IfSome (H.known shelf.old) (λ files.
         IsSome (file_at files name.now) → Rises (H.amiss shelf.old) (H.amiss shelf.new))) }
 {
     match read_file(alloc, shelf, name, MOST_BYTES) {
@@ -43,13 +43,13 @@ fn find_bytes<H: Shelf>(alloc: Global, shelf: &mut H, name: &str) -> Result<Vec<
 
 /// The machine and the standing that the snapshot of this name tells. An `Err` is the status that all ends with.
 fn find_snapshot<H: Shelf>(alloc: Global, shelf: &mut H, name: &str) -> Result<Opened, Status>
-    ensures found { IfOk result (λ opened. IsSaved (H.told shelf.old) name.now
+    ensures found { IfOk result (λ opened. IsSaved (H.known shelf.old) name.now
         (λ text. IsSnapshot text opened.machine opened.standing)) }
     ensures sound { IfOk result (λ opened. IsSound opened.machine opened.standing) }
-    ensures none { IfErr result (NoSnapshot (H.told shelf.old) name.now) }
+    ensures none { IfErr result (NoSnapshot (H.known shelf.old) name.now) }
     ensures shelf { IfErr result (λ s. s ≡ Status.Shelf
         → Rises (H.faults shelf.old) (H.faults shelf.new)) }
-    ensures amiss { IfErr result (λ s. s ≡ Status.Shelf → IfSome (H.told shelf.old) (λ files.
+    ensures amiss { IfErr result (λ s. s ≡ Status.Shelf → IfSome (H.known shelf.old) (λ files.
         IsSome (file_at files name.now) → Rises (H.amiss shelf.old) (H.amiss shelf.new))) }
 {
     let text = match find_bytes(alloc, shelf, name) {
@@ -74,7 +74,7 @@ fn resume_on<S: Source, K: Sink>(
 ) -> Status
     requires sound { IsSound opened.machine opened.standing }
     ensures ends { (start : SessionState)
-        → IsWhole opened.machine start (state_told opened.machine opened.standing)
+        → IsWhole opened.machine start (standing_state opened.machine opened.standing)
         → EndsOn opened.machine (unwrap_or settings.budget opened.machine.budget)
         settings.bounds start
         (S.left source.old) (S.left source.new) (K.taken sink.old) (K.taken sink.new) result }
@@ -102,10 +102,10 @@ pub(crate) fn resume<H: Shelf, S: Source, K: Sink>(
     source: &mut S,
     sink: &mut K,
 ) -> Status
-    ensures ends { ResumeEnds S.left K.taken (H.told shelf.old) source.old source.new sink.old
+    ensures ends { ResumeEnds S.left K.taken (H.known shelf.old) source.old source.new sink.old
         sink.new (seen request.now) result }
     ensures shelf { result ≡ Status.Shelf → Rises (H.faults shelf.old) (H.faults shelf.new) }
-    ensures amiss { result ≡ Status.Shelf → IfSome (H.told shelf.old) (λ files.
+    ensures amiss { result ≡ Status.Shelf → IfSome (H.known shelf.old) (λ files.
         IsSome (file_at files request.now.arg.now)
         → Rises (H.amiss shelf.old) (H.amiss shelf.new)) }
     ensures source { result ≡ Status.Source

@@ -5,7 +5,7 @@ ghost use Rattle.tp_command.specs.App.{seen};
 ghost use Rattle.tp_outside.specs.Outside.{Rises, file_at};
 ghost use Rattle.tp_program.specs.SaveEnds.{EndsWithLine, IsSavedLine, SaveEnds, SavesOn};
 ghost use Rattle.tp_session_standing.specs.Sound.{IsSound};
-ghost use Rattle.tp_session_standing.specs.Told.{standing_of};
+ghost use Rattle.tp_session_standing.specs.StandingStates.{standing_of};
 
 use crate::Status;
 use crate::machine::find_machine;
@@ -96,10 +96,10 @@ pub(crate) fn save<H: Shelf, S: Source, K: Sink>(
     source: &mut S,
     sink: &mut K,
 ) -> Status
-    ensures ends { SaveEnds S.left K.taken (H.told shelf.old) source.old source.new sink.old
+    ensures ends { SaveEnds S.left K.taken (H.known shelf.old) source.old source.new sink.old
         sink.new (seen request.now) result }
     ensures shelf { result ≡ Status.Shelf → Rises (H.faults shelf.old) (H.faults shelf.new) }
-    ensures amiss { result ≡ Status.Shelf → IfSome (H.told shelf.old) (λ files.
+    ensures amiss { result ≡ Status.Shelf → IfSome (H.known shelf.old) (λ files.
         IsSome (file_at files request.now.arg.now)
         → Rises (H.amiss shelf.old) (H.amiss shelf.new)) }
     ensures source { result ≡ Status.Source

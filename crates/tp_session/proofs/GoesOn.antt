@@ -19,7 +19,7 @@ use Rattle.tp_event_rules.specs.Seen.{fronts_of}
 use Rattle.tp_event_rules.specs.States.{SessionState}
 use Rattle.tp_event_turn.proofs.LiveFacts.{lost-part}
 use Rattle.tp_session_standing.specs.Sound.{IsSound}
-use Rattle.tp_session_standing.specs.Told.{refill_at, told, told_refills}
+use Rattle.tp_session_standing.specs.StandingStates.{refill_at, standing_state, standing_refills}
 use Rattle.tp_session_standing.proofs.GoesOn.{goes-on}
 use Rattle.tp_run_laws.specs.GoingOn.{GoesOn}
 use Rattle.tp_run_laws.specs.Wholes.{IsWhole}
@@ -58,11 +58,11 @@ module _ (machine : Machine) (t : kept.Standing) (sound : IsSound machine t) whe
   same-lost : filter (is_planned_among (filter (is_live machine t.now) t.plans)) (fronts_of t.plans) ≡ fronts_of t.plans
   same-lost = lost-part (is_live machine t.now) t.plans sound.legal.in_order ∙ ap fronts_of same-plans
 
-  same-refills : less_taken machine (filter (λ p. not (is_live machine t.now p)) t.plans) (told_refills machine t) ≡ told_refills machine t
-  same-refills = ap (λ gone. less_taken machine gone (told_refills machine t)) (none-fails (is_live machine t.now) t.plans all-live) ∙ less-nothing machine (λ loc. refill_at (taken_at machine t.plans loc) loc machine.feeders t.stock)
+  same-refills : less_taken machine (filter (λ p. not (is_live machine t.now p)) t.plans) (standing_refills machine t) ≡ standing_refills machine t
+  same-refills = ap (λ gone. less_taken machine gone (standing_refills machine t)) (none-fails (is_live machine t.now) t.plans all-live) ∙ less-nothing machine (λ loc. refill_at (taken_at machine t.plans loc) loc machine.feeders t.stock)
 
   -- the state that a sound standing tells is its own live part
-  pub told-whole : IsWhole machine (told machine t) (told machine t)
+  pub told-whole : IsWhole machine (standing_state machine t) (standing_state machine t)
   told-whole =
       let k = (goes-on machine t sound).can.kept in
       record {
@@ -74,7 +74,7 @@ module _ (machine : Machine) (t : kept.Standing) (sound : IsSound machine t) whe
           older = k.older;
           purges = k.purges;
         };
-        live = λ i. record (told machine t) { plans = same-plans i; lost = same-lost i; refills = same-refills i };
+        live = λ i. record (standing_state machine t) { plans = same-plans i; lost = same-lost i; refills = same-refills i };
       }
 
 module _ (machine : Machine) (nodes : ℕ) (bounds : Bool) (whole live : SessionState) (behind : IsWhole machine whole live) where

@@ -14,7 +14,7 @@ use Rattle.tp_event_rules.proofs.StockKept.{stock-more}
 use Rattle.tp_event_rules.specs.States.{SessionState, empty_state}
 use Rattle.tp_session.specs.Kept.{CanBeSaved}
 use Rattle.tp_session_standing.specs.Sound.{IsSound}
-use Rattle.tp_session_standing.specs.Told.{standing_of, told as state_told}
+use Rattle.tp_session_standing.specs.StandingStates.{standing_of, standing_state}
 use Rattle.tp_run_laws.proofs.Lawful.{lines_go_on, whole-empty}
 use Rattle.tp_session.specs.SessionEnds.{ScriptEnds}
 use Rattle.tp_session.specs.Sessions.{Standing, Tells}
@@ -60,7 +60,7 @@ module _ (machine : Machine) where
 
   module _ (nodes : ℕ) (bounds : Bool) (empty : CanBeSaved machine 0 empty_state)
       (sound : (events : ℕ) (s : SessionState) → events ≤ 4000000000 → length s.jobs ≤ 1000000 → CanBeSaved machine events s → IsSound machine (standing_of machine s))
-      (back : (events : ℕ) (s : SessionState) → CanBeSaved machine events s → state_told machine (standing_of machine s) ≡ s) where
+      (back : (events : ℕ) (s : SessionState) → CanBeSaved machine events s → standing_state machine (standing_of machine s) ≡ s) where
     abbrev start : Standing
     start = record { machine = machine; budget = nodes; bounds = bounds; state = empty_state }
 

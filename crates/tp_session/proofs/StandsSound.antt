@@ -28,7 +28,7 @@ use Rattle.tp_event_rules.specs.Seen.{HasStarted}
 use Rattle.tp_event_rules.specs.States.{SessionState}
 use Rattle.tp_session_standing.proofs.FeederFacts.{Apart, feeders-apart}
 use Rattle.tp_session_standing.specs.Sound.{AreFree, IsFreeOf, IsKeptPlan, IsKeptWaiting, IsNumbered, IsReleasedBy, IsSound}
-use Rattle.tp_session_standing.specs.Told.{count_of, free_sheets, standing_of}
+use Rattle.tp_session_standing.specs.StandingStates.{count_of, free_sheets, standing_of}
 use Rattle.tp_session.specs.Kept.{IsCounted, KeepsPlan, KeepsSound, KeepsWaiting}
 use Rattle.tp_session.specs.Laws.{StandsSoundly}
 

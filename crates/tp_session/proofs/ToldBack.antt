@@ -11,7 +11,7 @@ use Rattle.tp_schedule.proofs.Pairs.{AllPairs-head, AllPairs-tail}
 use Rattle.tp_stock.specs.Stock.{free_of, is_counted, refilled, taken_at}
 use Rattle.tp_stock.proofs.CountedFacts.{counts}
 use Rattle.tp_session_standing.proofs.FeederFacts.{Apart, feeders-apart}
-use Rattle.tp_session_standing.specs.Told.{count_of, refill_at, refill_by, standing_of, told, told_refills}
+use Rattle.tp_session_standing.specs.StandingStates.{count_of, refill_at, refill_by, standing_of, standing_state, standing_refills}
 use Rattle.tp_session.specs.Laws.{StandsAsTold}
 use Rattle.tp_session.proofs.CountedRefills.{by-same}
 
@@ -68,7 +68,7 @@ told-back machine events s k = λ i. record s { lost = k.can.kept.lines.fronts i
   each : (loc : ℕ) → loc < 256 → refill_at (taken loc) loc machine.feeders (standing_of machine s).stock ≡ cond (is_counted machine loc) (refilled s.refills loc) (pos 0)
   each loc within = told-at taken (refilled s.refills) loc machine.feeders (feeders-apart machine) k.stocked.drawn
 
-  refills : told_refills machine (standing_of machine s) ≡ s.refills
+  refills : standing_refills machine (standing_of machine s) ≡ s.refills
   refills =
       by-same (λ loc. refill_at (taken loc) loc machine.feeders (standing_of machine s).stock) (λ loc. cond (is_counted machine loc) (refilled s.refills loc) (pos 0)) each
       ∙ sym k.sound.stock.counted

@@ -12,7 +12,7 @@ use Rattle.tp_run_laws.specs.GoingOn.{GoesOn}
 use Rattle.tp_run_laws.specs.Wholes.{IsWhole}
 use Rattle.tp_session.specs.Sessions.{Standing, Tells, start_of}
 use Rattle.tp_session_standing.specs.Sound.{IsSound}
-use Rattle.tp_session_standing.specs.Told.{told}
+use Rattle.tp_session_standing.specs.StandingStates.{standing_state}
 use Rattle.tp_stream.specs.Tellers.{TellsAll}
 
 -- where a session of the machine stands in this state
@@ -41,4 +41,4 @@ abbrev pub EmptyIsWhole : Type 0
 EmptyIsWhole = (machine : Machine) → IsWhole machine empty_state empty_state
 
 abbrev pub ToldIsWhole : Type 0
-ToldIsWhole = (machine : Machine) (t : kept.Standing) → IsSound machine t → IsWhole machine (told machine t) (told machine t)
+ToldIsWhole = (machine : Machine) (t : kept.Standing) → IsSound machine t → IsWhole machine (standing_state machine t) (standing_state machine t)

@@ -8,7 +8,7 @@ use Rattle.tp_event_rules.specs.Ready.{KeepsLive}
 use Rattle.tp_event_rules.specs.States.{SessionState}
 use Rattle.tp_event_turn.specs.Events.{LiveTurn}
 use Rattle.tp_session_standing.specs.Sound.{IsSound, last_number, most_jobs}
-use Rattle.tp_session_standing.specs.Told.{standing_of, told}
+use Rattle.tp_session_standing.specs.StandingStates.{standing_of, standing_state}
 use Rattle.tp_session.specs.Kept.{CanBeSaved, KeepsSound}
 
 -- what a live state keeps besides is kept through the turn of any event
@@ -23,4 +23,4 @@ StandsSoundly = (machine : Machine) (events : ℕ) (s : SessionState) → events
 
 -- and what is told of that is the state itself
 abbrev pub StandsAsTold : Type 0
-StandsAsTold = (machine : Machine) (events : ℕ) (s : SessionState) → CanBeSaved machine events s → told machine (standing_of machine s) ≡ s
+StandsAsTold = (machine : Machine) (events : ℕ) (s : SessionState) → CanBeSaved machine events s → standing_state machine (standing_of machine s) ≡ s

@@ -10,7 +10,7 @@ use Rattle.tp_event_rules.specs.States.{SessionState, empty_state}
 use Rattle.tp_run_laws.specs.GoingOn.{GoesOn}
 use Rattle.tp_session.specs.Sessions.{Standing, Tells, start_of}
 use Rattle.tp_session_standing.specs.Sound.{IsSound}
-use Rattle.tp_session_standing.specs.Told.{standing_of, told}
+use Rattle.tp_session_standing.specs.StandingStates.{standing_of, standing_state}
 
 -- the whole script was answered from the empty state on: this is the text of a run over its events. It ended in a state of which this
 -- is the live part. Where this stands is sound to go on from, and what is told of that is the live part itself
@@ -20,7 +20,7 @@ pub record EndsSoundly (machine : Machine) (nodes : ℕ) (bounds : Bool) (script
   pub text : List ℕ
   pub run : GoesOn machine nodes bounds empty_state (filter_map line_event (lines_of script)) text live
   pub sound : IsSound machine (standing_of machine live)
-  pub as_told : told machine (standing_of machine live) ≡ live
+  pub as_told : standing_state machine (standing_of machine live) ≡ live
 
 -- so it is with a session of the machine, and the text was written
 pub record ScriptEnds (machine : Machine) (nodes : ℕ) (bounds : Bool) (script : List ℕ) (taken taken' : Option (List ℕ)) (s : Standing) : Type 0 where

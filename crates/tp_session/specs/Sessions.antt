@@ -15,7 +15,7 @@ use Rattle.tp_run_laws.specs.EventRuns.{IsRunOf}
 use Rattle.tp_run_laws.specs.Wholes.{TellsTurn}
 use Rattle.tp_session.specs.Kept.{CanBeSaved}
 use Rattle.tp_session_standing.specs.Sound.{IsSound, last_number, most_jobs}
-use Rattle.tp_session_standing.specs.Told.{standing_of, told}
+use Rattle.tp_session_standing.specs.StandingStates.{standing_of, standing_state}
 use Rattle.tp_jobs.specs.declared.standing.Standing as kept
 
 -- the machine, the budget, whether bounds are shown, and the live part of the state: all that answers depend on
@@ -53,7 +53,7 @@ pub record Tells (s : Standing) (event : Event) (text : List ℕ) (s' : Standing
 
 -- where it stands once it goes on from what is kept of a session
 abbrev pub gone_on : Standing → kept.Standing → Standing
-gone_on s t = record s { state = told s.machine t }
+gone_on s t = record s { state = standing_state s.machine t }
 
 -- where a session stands before its first event: its budget is the one that is set, or else the machine's
 abbrev pub start_of : Machine → Option ℕ → Bool → Standing

@@ -143,7 +143,7 @@ impl<N: Network> SessionOver<N> {
     ghost use Rattle.tp_session.specs.Stocks.{IsFree};
     ghost use Rattle.tp_session.specs.Kept.{CanBeSaved};
     ghost use Rattle.tp_session_standing.specs.Sound.{IsSound, last_number, most_jobs};
-    ghost use Rattle.tp_session_standing.specs.Told.{standing_of};
+    ghost use Rattle.tp_session_standing.specs.StandingStates.{standing_of};
 
     /// Does the turn of one event, and appends its text. After `Memory` all is as before, but for the board that asks are
     /// answered on.
@@ -325,7 +325,7 @@ impl<N: Network> Teller for SessionOver<N> {
 
 impl<N: Network> Desk for SessionOver<N> {
     ghost use Rattle.tp_session_standing.specs.Sound.{IsSound};
-    ghost use Rattle.tp_session_standing.specs.Told.{standing_of};
+    ghost use Rattle.tp_session_standing.specs.StandingStates.{standing_of};
 
     ghost machine = { λ s. s.standing.machine };
 

@@ -27,11 +27,11 @@ use Rattle.tp_session_standing.proofs.FeederFacts.{feeders-apart}
 use Rattle.tp_session_standing.proofs.Refilled.{Refilled, free-all, map-members, refill-between, refilled-each}
 use Rattle.tp_session_standing.specs.Laws.{CanGoOn}
 use Rattle.tp_session_standing.specs.Sound.{IsFreeOf, IsKeptPlan, IsKeptWaiting, IsSound, last_number}
-use Rattle.tp_session_standing.specs.Told.{count_of, refill_at, refill_by, standing_of, told}
+use Rattle.tp_session_standing.specs.StandingStates.{count_of, refill_at, refill_by, standing_of, standing_state}
 
 module _ (machine : Machine) (t : Standing) (sound : IsSound machine t) where
   abbrev s : SessionState
-  s = told machine t
+  s = standing_state machine t
 
   -- what holds of each plan and of each copy that waits
   kept : (p : Plan) → Contains t.plans p → IsKeptPlan machine t p

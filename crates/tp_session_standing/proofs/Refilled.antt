@@ -10,7 +10,7 @@ use Rattle.tp_schedule.proofs.Pairs.{AllPairs-head, AllPairs-tail}
 use Rattle.tp_stock.specs.Stock.{free_of}
 use Rattle.tp_session_standing.proofs.FeederFacts.{Apart}
 use Rattle.tp_session_standing.specs.Sound.{AreFree, IsFreeOf}
-use Rattle.tp_session_standing.specs.Told.{count_of, refill_at, refill_by}
+use Rattle.tp_session_standing.specs.StandingStates.{count_of, refill_at, refill_by}
 
 -- a feeder of the list, what is free there, and the refills at its location
 pub record Refilled (taken : ℕ) (feeders : List Feeder) (stock : List (Option ℕ)) (f : Feeder) : Type 0 where

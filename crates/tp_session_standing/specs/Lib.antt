@@ -1,3 +1,3 @@
-pub mod Told
+pub mod StandingStates
 pub mod Sound
 pub mod Laws

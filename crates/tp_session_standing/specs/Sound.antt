@@ -19,7 +19,7 @@ use Rattle.tp_event_rules.specs.StateInvariants.{IsLeastAt, IsOlder, KeepsJobs, 
 use Rattle.tp_event_rules.specs.Lines.{is_job_broken}
 use Rattle.tp_event_rules.specs.Ready.{EntersWhereBroken, HasStartedWhole}
 use Rattle.tp_event_rules.specs.Seen.{HasStarted}
-use Rattle.tp_session_standing.specs.Told.{told}
+use Rattle.tp_session_standing.specs.StandingStates.{standing_state}
 
 -- the most jobs, the last tick of a point, the greatest numbers of a sheet and of a copy, and the most sheets free at a feeder
 abbrev pub most_jobs : ℕ
@@ -76,7 +76,7 @@ pub record IsKeptPlan (machine : Machine) (t : Standing) (p : Plan) : Type 0 whe
   pub front : HasStartedWhole t.now p
   pub purge : HasStarted t.now p
   pub broken : EntersWhereBroken t.now t.jobs p
-  pub clear : IsTrue (is_clear machine (told machine t) p)
+  pub clear : IsTrue (is_clear machine (standing_state machine t) p)
 
 -- a copy that waits: it has no plan, a feeder has its media, and its job isn't broken. None of its line that has a whole plan to
 -- the tray stands behind it
@@ -99,12 +99,12 @@ pub record IsSound (machine : Machine) (t : Standing) : Type 0 where
   pub few_plans : length t.plans ≤ most_live
   pub plans : All (IsKeptPlan machine t) t.plans
   pub few_waiting : length t.waiting ≤ most_open
-  pub few_open : open_count (told machine t) ≤ most_open
+  pub few_open : open_count (standing_state machine t) ≤ most_open
   pub in_order : AllPairs (λ v w. IsTrue (is_before v.sheet w.sheet)) t.waiting
   pub waiting : All (IsKeptWaiting machine t) t.waiting
-  pub one : AllPairs (λ a b. IsFalse (is_same_sheet a b)) (open_copies (told machine t))
-  pub newest : All (λ p. All (IsOlder p) (open_copies (told machine t))) t.plans
+  pub one : AllPairs (λ a b. IsFalse (is_same_sheet a b)) (open_copies (standing_state machine t))
+  pub newest : All (λ p. All (IsOlder p) (open_copies (standing_state machine t))) t.plans
   -- the schedule is legal within the horizon, and least
   pub legal : IsLegal machine t.plans
   pub horizon : KeepsHorizon machine t.now t.plans
-  pub least : IsLeastAt machine (told machine t)
+  pub least : IsLeastAt machine (standing_state machine t)

@@ -1,7 +1,7 @@
 //! Where a live state stands.
 
 ghost use Rattle.std.specs.Prelude.{◌≡◌, IfOk};
-ghost use Rattle.tp_session_standing.specs.Told.{standing_of};
+ghost use Rattle.tp_session_standing.specs.StandingStates.{standing_of};
 ghost use Rattle.tp_event_rules.specs.LiveStates.{seen};
 ghost use Rattle.tp_event_rules.specs.Ready.{KeepsStock, last_copy};
 

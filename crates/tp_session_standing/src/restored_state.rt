@@ -3,7 +3,7 @@
 ghost use Rattle.std.specs.Prelude.{◌≡◌, ◌+◌, ◌<◌, ◌^◌, IfOk, length};
 ghost use Rattle.tp_schedule.specs.Timetables.{IsOrdered};
 ghost use Rattle.tp_session_standing.specs.Sound.{IsSound};
-ghost use Rattle.tp_session_standing.specs.Told.{told};
+ghost use Rattle.tp_session_standing.specs.StandingStates.{standing_state};
 ghost use Rattle.tp_event_rules.specs.LiveStates.{seen};
 ghost use Rattle.tp_event_rules.specs.Seen.{fronts_of};
 
@@ -46,7 +46,7 @@ fn fronts_of(alloc: Global, plans: &[Plan]) -> Result<Vec<SheetId>, Memory>
 /// The live state that a sound standing tells. Takes the time of all jobs and of the plans.
 pub fn state_of(alloc: Global, machine: &Machine, standing: &Standing) -> Result<LiveState, Memory>
     requires sound { IsSound machine.now standing.now }
-    ensures { IfOk result (λ state. seen state ≡ told machine.now standing.entry.now) }
+    ensures { IfOk result (λ state. seen state ≡ standing_state machine.now standing.entry.now) }
 {
     let schedule = schedule_of(alloc, standing.plans.as_slice())?;
     let refills = refills_of(machine, &schedule, standing.stock.as_slice());

@@ -2,7 +2,7 @@
 
 ghost use Rattle.std.specs.Prelude.{◌≡◌, ◌<◌, ◌≤ℤ◌, IfOk, IfSome, get_or, map, option_map, pos};
 ghost use Rattle.tp_machine.specs.Limits.{most_locations};
-ghost use Rattle.tp_session_standing.specs.Told.{count_of, free_sheets, refill_at, refill_by};
+ghost use Rattle.tp_session_standing.specs.StandingStates.{count_of, free_sheets, refill_at, refill_by};
 ghost use Rattle.tp_stock.specs.Stock.{IsBounded, by_location, free_of, most_stocked, refilled, taken_at};
 ghost use Rattle.tp_event_rules.specs.LiveStates.{seen};
 ghost use Rattle.tp_event_rules.specs.Ready.{KeepsStock, last_copy};

@@ -14,7 +14,7 @@ use Rattle.tp_event_rules.specs.StateInvariants.{IsLeastAt, IsOlder, StandsBehin
 use Rattle.tp_event_rules.specs.Lines.{is_job_broken}
 use Rattle.tp_event_rules.specs.Ready.{EntersWhereBroken, HasStartedWhole}
 use Rattle.tp_event_rules.specs.Seen.{HasStarted}
-use Rattle.tp_session_standing.specs.Told.{told}
+use Rattle.tp_session_standing.specs.StandingStates.{standing_state}
 
 -- the plans stand in the order of copies, no copy twice
 abbrev pub AreInOrder : List Plan → Type 0
@@ -34,7 +34,7 @@ WaitsBefore v w = IsTrue (is_before v.sheet w.sheet)
 pub record KeepsWaiting (machine : Machine) (t : Standing) : Type 0 where
   pub in_order : AllPairs WaitsBefore t.waiting
   pub can_wait : All (CanWait machine t) t.waiting
-  pub few_open : open_count (told machine t) ≤ most_open
+  pub few_open : open_count (standing_state machine t) ≤ most_open
 
 -- a plan in its times: it is a timed plan, and live
 pub record IsOnItsWay (machine : Machine) (now : ℕ) (p : Plan) : Type 0 where
@@ -49,7 +49,7 @@ AreOnTheirWay machine t = All (IsOnItsWay machine t.now) t.plans
 pub record HasCome (machine : Machine) (t : Standing) (p : Plan) : Type 0 where
   pub front : HasStartedWhole t.now p
   pub purge : HasStarted t.now p
-  pub clear : IsTrue (is_clear machine (told machine t) p)
+  pub clear : IsTrue (is_clear machine (standing_state machine t) p)
 
 -- the schedule is legal and within the horizon, and its plans have come as far as they must
 pub record KeepsSchedule (machine : Machine) (t : Standing) : Type 0 where
@@ -75,7 +75,7 @@ pub record KeepsCopies (t : Standing) : Type 0 where
 
 -- no point of the schedule could be earlier
 abbrev pub KeepsTimes : Machine → Standing → Type 0
-KeepsTimes machine t = IsLeastAt machine (told machine t)
+KeepsTimes machine t = IsLeastAt machine (standing_state machine t)
 
 -- by their numbers among the rules of a snapshot, the rules from 7 on are kept up to this one
 pub record AreKeptTo (n : ℕ) (machine : Machine) (t : Standing) : Type 0 where

@@ -13,7 +13,7 @@ ghost use Rattle.tp_event_rules.specs.StateInvariants.{is_clear};
 ghost use Rattle.tp_event_rules.specs.Moments.{is_started};
 ghost use Rattle.tp_event_rules.specs.Ready.{HasStartedWhole};
 ghost use Rattle.tp_event_rules.specs.Seen.{HasStarted};
-ghost use Rattle.tp_session_standing.specs.Told.{told};
+ghost use Rattle.tp_session_standing.specs.StandingStates.{standing_state};
 ghost use Rattle.tp_snapshot_rules.specs.Rules.{AreInOrder, AreOnTheirWay, HasCome, KeepsSchedule, KeepsTimes};
 
 use crate::plans::{is_front, is_to_tray};
@@ -85,7 +85,7 @@ fn are_clear(machine: &Machine, outs: Outs, now: Tick, acts: &[ActId], points: &
 }
 
 fn is_clear(machine: &Machine, standing: &Standing, plan: &Plan) -> bool
-    ensures { result ≡ is_clear machine.now (told machine.now standing.entry.now) plan.now }
+    ensures { result ≡ is_clear machine.now (standing_state machine.now standing.entry.now) plan.now }
 {
     let acts = plan.acts.as_slice();
     let points = plan.points.as_slice();

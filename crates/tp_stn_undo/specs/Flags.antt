@@ -26,7 +26,7 @@ pub record Waits : Type 0 where
   pub points : List ℕ
 
 -- what can be seen of a line: the points in it, and how many there can be
-pub record LineValue : Type 0 where
+pub record QueueValue : Type 0 where
   pub points : List ℕ
   pub capacity : ℕ
 

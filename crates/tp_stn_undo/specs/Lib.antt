@@ -4,7 +4,7 @@ pub mod Marks
 pub mod Stacks
 pub mod LiveState
 pub mod Flags
-pub mod Lines
+pub mod PointQueues
 pub mod Waits
 pub mod Notes
 pub mod Propagation

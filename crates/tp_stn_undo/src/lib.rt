@@ -3,7 +3,6 @@
 
 mod cause_trace;
 mod changes;
-mod line;
 mod link;
 mod link_lists;
 mod live_net;
@@ -11,6 +10,7 @@ mod lower_bound;
 mod marks;
 mod network;
 mod new_edges;
+mod point_queue;
 mod point_state;
 mod propagation;
 mod saved_changes;

@@ -2,14 +2,14 @@
 ghost use Rattle.std.specs.Prelude.{◌≡◌, ℕ, ◌<◌, ◌≤◌, ◌^◌, length, replicate, [], ◌∷◌, false, true, slice_set, IfOk, IfSome, IfNone};
 ghost use Rattle.tp_stn_undo.specs.Flags.{AreIdle, AreBelow};
 
-use crate::line::Line;
+use crate::point_queue::PointQueue;
 use std::alloc::{AllocError, Global};
 use std::marker::Model;
 
 /// The points whose edges have to be followed, each once, first come first served.
 #[derive(Drop)]
 pub(crate) struct Waiting {
-    line: Line,
+    line: PointQueue,
     /// For each point whether it is among them.
     waits: Vec<bool>,
 }
@@ -38,7 +38,7 @@ impl Waiting {
             unreachable!()
         };
         Ok(Waiting {
-            line: Line::new(alloc, points)?,
+            line: PointQueue::new(alloc, points)?,
             waits,
         })
     }

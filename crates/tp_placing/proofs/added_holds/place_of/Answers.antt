@@ -16,7 +16,7 @@ none = record { rule = record { resource = record { 0 = 0 }; begin = Start; begi
 
 pub begin_at-requires-clause-within : goal.begin_at-requires-clause-within
 begin_at-requires-clause-within c =
-    let order = order_on c.args.lines.now.orders c.args.hold.now.rule.resource.0 in
+    let order = order_on c.args.timelines.now.orders c.args.hold.now.rule.resource.0 in
     let known = All-at (λ id. id < length c.args.look.held.now) order (c.back.place - 1) c.at.result c.requires.ids c.at.ensures in
     let there = slice_get-get_or c.args.look.held.now c.at.result none known in
     subst (λ n. IsHeldWithin n (get_or c.args.look.held.now c.at.result none)) (sym c.requires.ticks)

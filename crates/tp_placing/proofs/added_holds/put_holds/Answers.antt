@@ -62,8 +62,8 @@ loop-number-init c =
       put = λ before on at. (
         [],
         sym (append-nil c.args.edges.now.items),
-        subst (λ k. HasPut c.args.machine.now c.args.look.plans.now before c.args.look.held.now c.args.lines.now.orders [] c.args.causes.now (map (slot_by (table_of c.args.look.plans.now)) (take k (drop c.args.from c.args.look.held.now)))) (sym none)
-            (put-none c.args.machine.now c.args.look.plans.now before c.args.look.held.now c.args.lines.now.orders c.args.causes.now at),
+        subst (λ k. HasPut c.args.machine.now c.args.look.plans.now before c.args.look.held.now c.args.timelines.now.orders [] c.args.causes.now (map (slot_by (table_of c.args.look.plans.now)) (take k (drop c.args.from c.args.look.held.now)))) (sym none)
+            (put-none c.args.machine.now c.args.look.plans.now before c.args.look.held.now c.args.timelines.now.orders c.args.causes.now at),
       );
       causes = ([], sym (append-nil c.args.causes.now));
       ids = c.requires.ids;
@@ -85,7 +85,7 @@ returns-clause-put c before on at =
     let end = c.loop-number-test.false in
     let from = c.requires.from in
     let all = take_all (c.loop-number.number - c.args.from) (drop c.args.from c.args.look.held.now) (omega arith) in
-    (h.0, h.1, subst (λ hs. HasPut c.args.machine.now c.args.look.plans.now before c.args.look.held.now c.loop-number.lines.orders h.0 c.loop-number.causes (map (slot_by (table_of c.args.look.plans.now)) hs)) all h.2)
+    (h.0, h.1, subst (λ hs. HasPut c.args.machine.now c.args.look.plans.now before c.args.look.held.now c.loop-number.timelines.orders h.0 c.loop-number.causes (map (slot_by (table_of c.args.look.plans.now)) hs)) all h.2)
 
 pub loop-number-preserved : goal.loop-number-preserved
 loop-number-preserved c =
@@ -102,12 +102,12 @@ loop-number-preserved c =
     let base = c.requires.base in
     let resource = rule.0 in
     let smalls = c.requires.small in
-    let turn = turned c.args.look.held.now c.loop-number.lines.orders c.put_hold.new.lines.orders c.loop-number.edges.items c.put_hold.new.edges.items c.loop-number.causes c.put_hold.new.causes c.loop-number.number c.place_of.result c.gap_at.result _
-    c.put_hold.ensures.edges c.put_hold.ensures.causes c.put_hold.ensures.lines (omega (arith, resource, count)) c.place_of.ensures number v.ids in
+    let turn = turned c.args.look.held.now c.loop-number.timelines.orders c.put_hold.new.timelines.orders c.loop-number.edges.items c.put_hold.new.edges.items c.loop-number.causes c.put_hold.new.causes c.loop-number.number c.place_of.result c.gap_at.result _
+    c.put_hold.ensures.edges c.put_hold.ensures.causes c.put_hold.ensures.timelines (omega (arith, resource, count)) c.place_of.ensures number v.ids in
     let two = turn.two_causes in
     let edges = turn.few_edges in
     let one = turn.one_more in
-    let lines = turn.same_count in
+    let timelines = turn.same_count in
     let old = c.loop-number.edges.ok.0 in
     let new = c.put_hold.new.edges.ok.0 in
     let from = v.from in
@@ -116,14 +116,14 @@ loop-number-preserved c =
     let wider = c.put_hold.ensures.capacity in
     let whole = c.requires.from in
     record {
-      put = λ before on at. put-step c.args.machine.now c.args.look.plans.now c.args.look.held.now c.loop-number.lines.orders c.put_hold.new.lines.orders c.args.edges.now.items c.loop-number.edges.items c.put_hold.new.edges.items c.loop-number.causes c.put_hold.new.causes
-          c.args.from c.loop-number.number c.place_of.result c.gap_at.result _ c.put_hold.ensures.edges c.put_hold.ensures.causes c.put_hold.ensures.lines c.gap_at.ensures.gap here from smalls inside resource (omega (arith, resource, count)) c.place_of.ensures (omega (arith, few, base)) before on (v.put before on at);
+      put = λ before on at. put-step c.args.machine.now c.args.look.plans.now c.args.look.held.now c.loop-number.timelines.orders c.put_hold.new.timelines.orders c.args.edges.now.items c.loop-number.edges.items c.put_hold.new.edges.items c.loop-number.causes c.put_hold.new.causes
+          c.args.from c.loop-number.number c.place_of.result c.gap_at.result _ c.put_hold.ensures.edges c.put_hold.ensures.causes c.put_hold.ensures.timelines c.gap_at.ensures.gap here from smalls inside resource (omega (arith, resource, count)) c.place_of.ensures (omega (arith, few, base)) before on (v.put before on at);
       causes = turn.behind c.args.causes.now v.causes.0 v.causes.1;
       ids = turn.ids;
       few = omega arith;
       some = omega arith;
       total = omega arith;
-      resources = lines ∙ v.resources;
+      resources = timelines ∙ v.resources;
       past = c.put_hold.ensures.past ∙ v.past;
       hold_capacity = c.put_hold.ensures.hold_capacity ∙ v.hold_capacity;
       marks = c.put_hold.ensures.marks ∙ v.marks;

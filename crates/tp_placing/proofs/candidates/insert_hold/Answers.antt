@@ -5,7 +5,7 @@ use Rattle.tp_placing.proofs.candidates.insert_hold.Goals as goal
 
 pub returns-clause-inserted : goal.returns-clause-inserted
 returns-clause-inserted c = record {
-  orders = c.in-Ok.ensures.ok ∙ ap (λ n. slice_set c.args.lines.now.orders c.args.hold.rule.resource.0 (insert (order_on c.args.lines.now.orders c.args.hold.rule.resource.0) c.args.place n)) (c.len-id.ensures ∙ c.args.held.now.ok.0);
+  orders = c.in-Ok.ensures.ok ∙ ap (λ n. slice_set c.args.timelines.now.orders c.args.hold.rule.resource.0 (insert (order_on c.args.timelines.now.orders c.args.hold.rule.resource.0) c.args.place n)) (c.len-id.ensures ∙ c.args.held.now.ok.0);
   past = c.in-Ok.ensures.past;
   hold_capacity = c.in-Ok.ensures.holds;
   max_marks = c.in-Ok.ensures.marks;

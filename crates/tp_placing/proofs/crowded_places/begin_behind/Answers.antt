@@ -7,7 +7,7 @@ use Rattle.tp_placing.proofs.crowded_places.begin_behind.Goals as goal
 
 pub end_now-end-requires : goal.end_now-end-requires
 end_now-end-requires g c =
-    let order = order_on c.args.lines.now.orders c.args.new.now.rule.resource.0 in
+    let order = order_on c.args.timelines.now.orders c.args.new.now.rule.resource.0 in
     let there = at-order c.args.known.held.now order c.requires.numbers (c.walk.at - 1) c.at.result _ c.at.ensures in
     record { among = c.requires.among (c.walk.at - 1) _ there }
 
@@ -17,7 +17,7 @@ walk-preserved g c =
     let held = c.args.known.held.now in
     let new = c.args.new.now in
     let least = c.args.least in
-    let order = order_on c.args.lines.now.orders new.rule.resource.0 in
+    let order = order_on c.args.timelines.now.orders new.rule.resource.0 in
     let times = λ (y : ℕ → ℕ). ArePlanned c.args.known.machine.now c.args.known.plans.now c.args.known.firsts.now y in
     let v = c.walk.invariant in
     let numbers = c.requires.numbers in
@@ -51,7 +51,7 @@ returns-clause-behind g c =
     let net = g.N.Network.reading.net c.args.net.now in
     let held = c.args.known.held.now in
     let new = c.args.new.now in
-    let order = order_on c.args.lines.now.orders new.rule.resource.0 in
+    let order = order_on c.args.timelines.now.orders new.rule.resource.0 in
     let times = λ (y : ℕ → ℕ). ArePlanned c.args.known.machine.now c.args.known.plans.now c.args.known.firsts.now y in
     let v = c.walk.invariant in
     let e = c.earlier.ensures in

@@ -8,14 +8,14 @@ use Rattle.tp_placing.proofs.kept_chains.add_chains.Goals as goal
 pub add_chain-requires-clause-space : goal.add_chain-requires-clause-space
 add_chain-requires-clause-space c =
     let v = c.loop-left.invariant in
-    let e = chains-more c.args.machine.now _ (length c.loop-left.causes) _ (holds_on c.args.held.now c.args.lines.now.orders) c.loop-left.left c.loop-left-test.true c.gap_at-gap.ensures.gap refl in
+    let e = chains-more c.args.machine.now _ (length c.loop-left.causes) _ (holds_on c.args.held.now c.args.timelines.now.orders) c.loop-left.left c.loop-left-test.true c.gap_at-gap.ensures.gap refl in
     first-fits _ _ _ _ _ _ _ _ _ _ c.loop-left.edges.ok.0 c.args.edges.now.ok.0 v.all e c.requires.space v.space
 
 pub add_chain-requires-clause-few : goal.add_chain-requires-clause-few
 add_chain-requires-clause-few c =
-    let orders = holds_on c.args.held.now c.args.lines.now.orders in
+    let orders = holds_on c.args.held.now c.args.timelines.now.orders in
     let left = c.loop-left.left in
-    let here = ap (λ zs. length (c.loop-left.causes ++ zs)) (sym (causes-more (holds_on c.args.held.now c.args.lines.now.orders) c.loop-left.left c.loop-left-test.true)) ∙ ap length c.loop-left.invariant.causes in
+    let here = ap (λ zs. length (c.loop-left.causes ++ zs)) (sym (causes-more (holds_on c.args.held.now c.args.timelines.now.orders) c.loop-left.left c.loop-left-test.true)) ∙ ap length c.loop-left.invariant.causes in
     let a = length-append c.loop-left.causes (chain_causes (orders (left - 1)) ++ chains_causes orders (left - 1)) in
     let b = length-append (chain_causes (orders (left - 1))) (chains_causes orders (left - 1)) in
     let l = length-append c.args.causes.now (chains_causes orders c.args.resources) in
@@ -25,11 +25,11 @@ add_chain-requires-clause-few c =
 pub loop-left-preserved : goal.loop-left-preserved
 loop-left-preserved c =
     let v = c.loop-left.invariant in
-    let orders = holds_on c.args.held.now c.args.lines.now.orders in
+    let orders = holds_on c.args.held.now c.args.timelines.now.orders in
     let left = c.loop-left.left in
     let a = c.add_chain.ensures in
     let next = ap length a.causes ∙ length-append c.loop-left.causes (chain_causes (orders (left - 1))) in
-    let e = chains-more c.args.machine.now _ (length c.loop-left.causes) (length c.add_chain.new.causes) (holds_on c.args.held.now c.args.lines.now.orders) c.loop-left.left c.loop-left-test.true c.gap_at-gap.ensures.gap next in
+    let e = chains-more c.args.machine.now _ (length c.loop-left.causes) (length c.add_chain.new.causes) (holds_on c.args.held.now c.args.timelines.now.orders) c.loop-left.left c.loop-left-test.true c.gap_at-gap.ensures.gap next in
     let wide = v.space in
     let wider = a.space in
     record {

@@ -5,8 +5,8 @@ use Rattle.tp_placing.proofs.kept_chains.add_chains.Given as goal
 abbrev pub invariant-loop-left : goal.invariant-loop-left
 invariant-loop-left l = record {
   within : l.left ≤ l.resources;
-  all : l.edges.items ++ chains_edges l.machine (length l.causes) (holds_on l.held l.lines.orders) l.left ≡ l.fn.edges.items ++ chains_edges l.machine (length l.fn.causes) (holds_on l.held l.lines.orders) l.resources;
-  causes : l.causes ++ chains_causes (holds_on l.held l.lines.orders) l.left ≡ l.fn.causes ++ chains_causes (holds_on l.held l.lines.orders) l.resources;
+  all : l.edges.items ++ chains_edges l.machine (length l.causes) (holds_on l.held l.timelines.orders) l.left ≡ l.fn.edges.items ++ chains_edges l.machine (length l.fn.causes) (holds_on l.held l.timelines.orders) l.resources;
+  causes : l.causes ++ chains_causes (holds_on l.held l.timelines.orders) l.left ≡ l.fn.causes ++ chains_causes (holds_on l.held l.timelines.orders) l.resources;
   space : vec_capacity l.fn.edges ≤ vec_capacity l.edges;
 }
 

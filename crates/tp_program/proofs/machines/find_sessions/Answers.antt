@@ -10,13 +10,13 @@ use Rattle.tp_program.proofs.machines.find_sessions.Goals as goal
 pub returns-in-Err-clause-none : goal.returns-in-Err-clause-none
 returns-in-Err-clause-none g c =
     let inside : c.loop-place.place < length c.args.names.now = omega arith in
-    machines-refused (g.H.Shelf.told c.args.shelf.now) (g.H.Shelf.told c.loop-place.shelf) c.args.names.now c.loop-place.place (record { ref_ptr = (0, 0); now = [] }) inside
+    machines-refused (g.H.Shelf.known c.args.shelf.now) (g.H.Shelf.known c.loop-place.shelf) c.args.names.now c.loop-place.place (record { ref_ptr = (0, 0); now = [] }) inside
     c.args.settings.budget c.args.settings.bounds _ c.loop-place.invariant.told c.loop-place.invariant.begin c.in-Err.status c.of_machine.result c.of_machine.ensures c.in-Err.ensures.none
 
 pub returns-in-Err-clause-amiss : goal.returns-in-Err-clause-amiss
 returns-in-Err-clause-amiss g c =
     let inside : c.loop-place.place < length c.args.names.now = omega arith in
-    machines-amiss (g.H.Shelf.told c.args.shelf.now) (g.H.Shelf.told c.loop-place.shelf) c.args.names.now c.loop-place.place (record { ref_ptr = (0, 0); now = [] }) inside
+    machines-amiss (g.H.Shelf.known c.args.shelf.now) (g.H.Shelf.known c.loop-place.shelf) c.args.names.now c.loop-place.place (record { ref_ptr = (0, 0); now = [] }) inside
     c.args.settings.budget c.args.settings.bounds _ c.loop-place.invariant.told c.loop-place.invariant.begin
     (g.H.Shelf.amiss c.args.shelf.now) (g.H.Shelf.amiss c.loop-place.shelf) (g.H.Shelf.amiss c.find_session.new.shelf)
     c.in-Err.status c.of_machine.result c.of_machine.ensures c.loop-place.invariant.not_amiss c.in-Err.ensures.amiss
@@ -26,12 +26,12 @@ loop-place-preserved g c =
     let inside : c.loop-place.place < length c.args.names.now = omega arith in
     record {
       begin =
-          subst (AllZip (BeginsOn (g.H.Shelf.told c.args.shelf.now) c.args.settings.budget c.args.settings.bounds) (take (c.loop-place.place + 1) (shown c.args.names.now)))
+          subst (AllZip (BeginsOn (g.H.Shelf.known c.args.shelf.now) c.args.settings.budget c.args.settings.bounds) (take (c.loop-place.place + 1) (shown c.args.names.now)))
           (sym (map-pushed c.loop-place.sessions.items c.push.new.self.items c.in-Ok.session (λ s. s.standing) c.in-Ok-push.ensures.items))
-          (one-begins (g.H.Shelf.told c.args.shelf.now) (g.H.Shelf.told c.loop-place.shelf) c.args.names.now c.loop-place.place (record { ref_ptr = (0, 0); now = [] }) inside
+          (one-begins (g.H.Shelf.known c.args.shelf.now) (g.H.Shelf.known c.loop-place.shelf) c.args.names.now c.loop-place.place (record { ref_ptr = (0, 0); now = [] }) inside
           c.args.settings.budget c.args.settings.bounds _ c.loop-place.invariant.told c.loop-place.invariant.begin c.in-Ok.session.standing c.in-Ok.ensures.begins);
       fresh = All-pushed c.loop-place.sessions.items c.push.new.self.items c.in-Ok.session (λ s. (s.text ≡ []) × (s.answered ≡ 0)) c.in-Ok-push.ensures.items c.loop-place.invariant.fresh c.in-Ok.ensures.fresh;
       told = c.find_session.ensures.told_stays ∙ c.loop-place.invariant.told;
       counted = IsCounted-more _ _ _ c.loop-place.invariant.counted c.find_session.ensures.counted;
-      not_amiss = stays-more (g.H.Shelf.told c.args.shelf.now) (g.H.Shelf.told c.loop-place.shelf) _ _ _ c.loop-place.invariant.told c.loop-place.invariant.not_amiss c.in-Ok.ensures.not_amiss;
+      not_amiss = stays-more (g.H.Shelf.known c.args.shelf.now) (g.H.Shelf.known c.loop-place.shelf) _ _ _ c.loop-place.invariant.told c.loop-place.invariant.not_amiss c.in-Ok.ensures.not_amiss;
     }

@@ -5,7 +5,7 @@ use Rattle.std.proofs.lemmas.Int.{ints, to_z-of_z}
 use Rattle.std.proofs.lemmas.List.FromFn.{fill_by_all}
 use Rattle.tp_stock.proofs.StockFacts.{at-location}
 use Rattle.tp_stock.specs.Stock.{by_location, taken_at}
-use Rattle.tp_session_standing.specs.Told.{refill_at}
+use Rattle.tp_session_standing.specs.StandingStates.{refill_at}
 use Rattle.tp_session_standing.proofs.stock_rows.refills_of.Goals as goal
 
 pub locations-preserved : goal.locations-preserved

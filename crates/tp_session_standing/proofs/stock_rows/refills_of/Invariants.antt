@@ -1,6 +1,6 @@
 use Rattle.std.proofs.Common.{◌≡◌, ℕ, ◌<◌, length, get_or, pos}
 use Rattle.tp_stock.specs.Stock.{taken_at}
-use Rattle.tp_session_standing.specs.Told.{refill_at}
+use Rattle.tp_session_standing.specs.StandingStates.{refill_at}
 use Rattle.tp_session_standing.proofs.stock_rows.refills_of.Given as goal
 
 abbrev pub invariant-locations : goal.invariant-locations

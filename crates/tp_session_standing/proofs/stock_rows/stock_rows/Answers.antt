@@ -5,7 +5,7 @@ use Rattle.std.proofs.lemmas.List.{length-map, length-take}
 use Rattle.tp_stock.specs.Stock.{most_stocked}
 use Rattle.tp_event_rules.specs.LiveStates.{seen}
 use Rattle.tp_event_rules.specs.Ready.{last_copy}
-use Rattle.tp_session_standing.specs.Told.{count_of, free_sheets}
+use Rattle.tp_session_standing.specs.StandingStates.{count_of, free_sheets}
 use Rattle.tp_session_standing.proofs.FeederFacts.{count-few, count-some, counted, free-count, member, next-row}
 use Rattle.tp_session_standing.proofs.stock_rows.stock_rows.Goals as goal
 

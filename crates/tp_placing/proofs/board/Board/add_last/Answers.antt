@@ -33,7 +33,7 @@ abbrev plan : (g : _) → After-add_plan-arg-1 g → Plan
 plan g k = k.index-plan.result.now
 
 behind : (g : _) (k : After-add_plan-arg-1 g)
-    → IsBehind k.args.machine.now k.args.now k.self.inside.plans.items (g.N.Network.reading.net k.self.inside.net) k.self.inside.lines.orders k.self.inside.held.items k.self.inside.firsts.items k.self.inside.last.0 k.self.inside.causes
+    → IsBehind k.args.machine.now k.args.now k.self.inside.plans.items (g.N.Network.reading.net k.self.inside.net) k.self.inside.timelines.orders k.self.inside.held.items k.self.inside.firsts.items k.self.inside.last.0 k.self.inside.causes
 behind g k = rw (← k.self.view_is) at k.requires.behind
 
 at-is : (g : _) (k : After-add_plan-arg-1 g) → k.len-at.result ≡ length k.self.inside.firsts.items
@@ -84,13 +84,13 @@ module _ (g : _) (c : After-put_holds-arg-3-1 g) where
   from-is = c.len-held.ensures ∙ c.self.inside.held.ok.0
 
   can : (plans : List Plan) (firsts : List PointId) → plans ≡ c.self.inside.plans.items → firsts ≡ c.push_reserved.new.self.items
-      → CanPut c.args.machine.now plans c.deref-3.result.now firsts c.self.inside.lines.orders c.len-held.result (slot_order c.args.machine.now (behind g k).plans)
+      → CanPut c.args.machine.now plans c.deref-3.result.now firsts c.self.inside.timelines.orders c.len-held.result (slot_order c.args.machine.now (behind g k).plans)
   can plans firsts a b = can-put _ _ _ _ _ _ _ c.self.inside.last _ (behind g k) (plan g k) (at-newest g k) plans c.deref-3.result.now firsts c.len-held.result a held-3 (b ∙ c.push_reserved.ensures.items) from-is
 
-  here : CanPut c.args.machine.now c.deref-4.result.now c.deref-3.result.now c.deref-5.result.now c.self.inside.lines.orders c.len-held.result (slot_order c.args.machine.now (behind g k).plans)
+  here : CanPut c.args.machine.now c.deref-4.result.now c.deref-3.result.now c.deref-5.result.now c.self.inside.timelines.orders c.len-held.result (slot_order c.args.machine.now (behind g k).plans)
   here = can c.deref-4.result.now c.deref-5.result.now c.deref-4.ensures.value c.deref-5.ensures.value
 
-  resources-here : length c.self.inside.lines.orders ≡ length c.args.machine.now.resources
+  resources-here : length c.self.inside.timelines.orders ≡ length c.args.machine.now.resources
   resources-here = let made = rw (← c.self.view_is) at c.requires.made in c.self.invariant.capacity.resources ∙ made.1
 
   own : AreOwn c.args.machine.now c.self.inside.plans.items (c.self.inside.firsts.items ++ c.self.inside.last ∷ []) (length c.self.inside.firsts.items) c.self.inside.last (plan g k) c.add_own_edges.new.edges.items
@@ -139,13 +139,13 @@ module _ (g : _) (c : After-deref-8 g) where
   abbrev net : Net
   net = g.N.Network.reading.net c.add_plan.new.net
 
-  load : LoadPlans c.args.machine.now c.args.now c.self.inside.plans.items net c.put_holds.new.lines.orders c.gather_acts.new.held.items c.push_reserved.new.self.items c.put_holds.new.causes c.put_holds.new.edges.items
+  load : LoadPlans c.args.machine.now c.args.now c.self.inside.plans.items net c.put_holds.new.timelines.orders c.gather_acts.new.held.items c.push_reserved.new.self.items c.put_holds.new.causes c.put_holds.new.edges.items
   load = load-all _ _ _ _ _ _ _ c.self.inside.last _ (behind g j) (plan g j) (at-newest g j)
-      net c.add_own_edges.new.edges.items c.put_holds.new.edges.items c.deref-4.result.now c.deref-3.result.now c.gather_acts.new.held.items c.push_reserved.new.self.items c.len-held.result c.put_holds.new.lines.orders c.put_holds.new.causes
+      net c.add_own_edges.new.edges.items c.put_holds.new.edges.items c.deref-4.result.now c.deref-3.result.now c.gather_acts.new.held.items c.push_reserved.new.self.items c.len-held.result c.put_holds.new.timelines.orders c.put_holds.new.causes
       c.add_plan.ensures.added (own g e) (c.put_holds.ensures.put (λ r. slot_order c.args.machine.now (behind g j).plans r) (λ r. order-on c.args.machine.now (behind g j).plans r) (here g e).slots)
       c.deref-4.ensures.value c.deref-3.ensures.value (sym c.deref-3.ensures.value ∙ held-3 g e) c.push_reserved.ensures.items (from-is g e) c.put_holds.ensures.causes
 
-  again : CanPut c.args.machine.now c.deref-6.result.now c.deref-3.result.now c.deref-7.result.now c.self.inside.lines.orders c.len-held.result (slot_order c.args.machine.now (behind g j).plans)
+  again : CanPut c.args.machine.now c.deref-6.result.now c.deref-3.result.now c.deref-7.result.now c.self.inside.timelines.orders c.len-held.result (slot_order c.args.machine.now (behind g j).plans)
   again = can g e c.deref-6.result.now c.deref-7.result.now c.deref-6.ensures.value c.deref-7.ensures.value
 
   kept : KeepEdges c.deref-6.result.now c.deref-8.result.now → KeepEdges c.self.inside.plans.items c.put_holds.new.edges.items
@@ -202,7 +202,7 @@ invariant_of-self g c =
     let old = c.add_plan.ensures.same_size in
     let same = c.load_if_kept.ensures.same_size in
     board-firsts _ _ _ _ _ _ _ _ _ c.self.inside.firsts c.push_reserved.new.self _ _ _ _
-    (board-step _ _ _ _ _ _ _ _ _ _ _ _ _ _ c.self.invariant _ _ _ _ c.put_holds.new.lines c.gather_acts.new.held c.self.inside.steps c.put_holds.new.edges
+    (board-step _ _ _ _ _ _ _ _ _ _ _ _ _ _ c.self.invariant _ _ _ _ c.put_holds.new.timelines c.gather_acts.new.held c.self.inside.steps c.put_holds.new.edges
     (ap length (c.load_if_kept.ensures.past ∙ c.add_plan.ensures.past)) (same.marks ∙ old.marks) (same.points ∙ old.points) (same.edges ∙ old.edges)
     (ap length made.past) made.marks made.resources (omega arith)
     held.0 (omega arith) (omega arith) (omega arith) steps (omega arith) (omega arith)) (omega arith)
@@ -227,4 +227,4 @@ returns-clause-last g c _ = omega (arith, c.len.ensures.len, (few g (goal.at.ret
 pub returns-clause-past : goal.returns-clause-past
 returns-clause-past g c none =
     (λ i. side_by_side c.gather_acts.new.held.items c.self.inside.steps.items ((c.load_if_kept.ensures.past ∙ c.add_plan.ensures.past) i) (c.put_holds.ensures.past i) c.self.inside.marks.items)
-    ∙ no-past c.self.inside.held.items c.gather_acts.new.held.items c.self.inside.steps.items c.self.inside.steps.items (g.N.Network.reading.past c.self.inside.net) c.self.inside.lines.past c.self.inside.marks.items (ap (past_of g.N.Network.reading) c.self.view_is ∙ none)
+    ∙ no-past c.self.inside.held.items c.gather_acts.new.held.items c.self.inside.steps.items c.self.inside.steps.items (g.N.Network.reading.past c.self.inside.net) c.self.inside.timelines.past c.self.inside.marks.items (ap (past_of g.N.Network.reading) c.self.view_is ∙ none)

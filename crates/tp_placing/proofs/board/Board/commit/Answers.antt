@@ -36,7 +36,7 @@ use Rattle.tp_placing.proofs.board.Board.commit.Goals.{After-index-newest, After
 abbrev board : (g : _) → After-index-newest g → BoardValue g.row.N.Denot
 board g c =
     let a = c.self.inside in
-    board_of a.net a.lines a.held.items a.plans.items a.firsts.items a.last a.floor a.horizon a.ask a.steps.items a.marks.items a.made_for a.causes a.limit a.settled
+    board_of a.net a.timelines a.held.items a.plans.items a.firsts.items a.last a.floor a.horizon a.ask a.steps.items a.marks.items a.made_for a.causes a.limit a.settled
 
 stands-here : (g : _) (c : After-index-newest g) → StandsOn g.N.Network.reading (board g c) c.args.machine.now c.in-Some.ask
 stands-here g c = stands-ask g.N.Network.reading (board g c) c.args.machine.now c.in-Some.ask (rw (← c.self.view_is) at c.requires.stands) c.in-Some.is
@@ -136,7 +136,7 @@ plan_by_steps-plan-requires-clause-known g k =
 ticks-here : (g : _) (c : After-index-newest g) → AreLeastTicks (g.N.Network.reading.net c.self.inside.net) (board_table c.self.inside.plans.items (Some (here g c).x)) (ticks_by (board_table c.self.inside.plans.items (Some (here g c).x)) (here g c).at.solved.0)
 ticks-here g c =
     let a = c.self.inside in
-    ready-ticks c.args.machine.now a.plans.items c.in-Some.ask (here g c).x a.steps.items (g.N.Network.reading.net a.net) a.lines.orders a.held.items (here g c).at
+    ready-ticks c.args.machine.now a.plans.items c.in-Some.ask (here g c).x a.steps.items (g.N.Network.reading.net a.net) a.timelines.orders a.held.items (here g c).at
 
 abbrev Ticks-here : (g : _) → After-index-newest g → Ticks
 Ticks-here g c = ticks_by (board_table c.self.inside.plans.items (Some (here g c).x)) (here g c).at.solved.0
@@ -191,7 +191,7 @@ end-here g c end e =
     let there = end-point a.plans.items (suffix_after a.steps.items) is_open a.last.0 s.last in
     let number-is : number (board_table a.plans.items (Some h.x)) (own 0) ≡ a.last.0 = number-at (board_table a.plans.items (Some h.x)) h.at.net.is_table.differ a.last.0 (own 0) (end-point a.plans.items (Some h.x) refl a.last.0 s.last) in
     and-some a.ask c.in-Some.ask _ s.asked
-    (least-tick c.args.machine.now a.plans.items c.in-Some.ask (suffix_after a.steps.items) a.steps.items (g.N.Network.reading.net a.net) a.lines.orders a.held.items s.now a.last.0 (own 0) there end (h.at.solved.0, h.at.solved.1, e ∙ ap h.at.solved.0 number-is))
+    (least-tick c.args.machine.now a.plans.items c.in-Some.ask (suffix_after a.steps.items) a.steps.items (g.N.Network.reading.net a.net) a.timelines.orders a.held.items s.now a.last.0 (own 0) there end (h.at.solved.0, h.at.solved.1, e ∙ ap h.at.solved.0 number-is))
 
 pub returns-clause-least : goal.returns-clause-least
 returns-clause-least g k =

@@ -9,7 +9,7 @@ earliest-requires g c =
     let a = c.self.inside in
     let st = rw (← c.self.view_is) at c.requires.stands in
     let is_open = rw (← c.self.view_is) at c.requires.open in
-    known-point st.0 a.plans.items st.1.0 (suffix_after a.steps.items) a.steps.items (g.N.Network.reading.net a.net) a.lines.orders a.held.items st.1.1.now a.last.0 (own 0) (end-point a.plans.items (suffix_after a.steps.items) is_open a.last.0 st.1.1.last)
+    known-point st.0 a.plans.items st.1.0 (suffix_after a.steps.items) a.steps.items (g.N.Network.reading.net a.net) a.timelines.orders a.held.items st.1.1.now a.last.0 (own 0) (end-point a.plans.items (suffix_after a.steps.items) is_open a.last.0 st.1.1.last)
 
 pub returns : goal.returns
 returns g c m st' =
@@ -17,4 +17,4 @@ returns g c m st' =
     let st = rw (← c.self.view_is) at st' in
     let is_open = rw (← c.self.view_is) at c.requires.open in
     rw (← c.self.view_is) (and-some a.ask st.0 _ st.1.asked
-    (least-tick m a.plans.items st.0 (suffix_after a.steps.items) a.steps.items (g.N.Network.reading.net a.net) a.lines.orders a.held.items st.1.now a.last.0 (own 0) (end-point a.plans.items (suffix_after a.steps.items) is_open a.last.0 st.1.last) c.earliest.result c.earliest.ensures))
+    (least-tick m a.plans.items st.0 (suffix_after a.steps.items) a.steps.items (g.N.Network.reading.net a.net) a.timelines.orders a.held.items st.1.now a.last.0 (own 0) (end-point a.plans.items (suffix_after a.steps.items) is_open a.last.0 st.1.last) c.earliest.result c.earliest.ensures))

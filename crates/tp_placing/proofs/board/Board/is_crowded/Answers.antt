@@ -18,7 +18,7 @@ use Rattle.tp_placing.proofs.board.Board.is_crowded.Goals.{After-index, After-ne
 abbrev board : (g : _) → After-next_hold-next g → BoardValue g.row.N.Denot
 board g c =
     let a = c.self.inside in
-    board_of a.net a.lines a.held.items a.plans.items a.firsts.items a.last a.floor a.horizon a.ask a.steps.items a.marks.items a.made_for a.causes a.limit a.settled
+    board_of a.net a.timelines a.held.items a.plans.items a.firsts.items a.last a.floor a.horizon a.ask a.steps.items a.marks.items a.made_for a.causes a.limit a.settled
 
 is-next : (g : _) (c : After-next_hold-next g) → IsNext g.N.Network.reading (board g c) c.args.machine.now c.args.hold c.args.place c.next_hold-next.result
 is-next g c =
@@ -59,8 +59,8 @@ pub begin_behind-till-requires-clause-new : goal.begin_behind-till-requires-clau
 begin_behind-till-requires-clause-new g k = among-new (is-next g (goal.at.begin_behind-till-requires-clause-new g k).After-next_hold-next)
 
 -- the hold that is read is the one at the place
-behind-is : (g : _) (d : After-index g) → (c : After-next_hold-next g) → All (λ n. n < length d.self.inside.held.items) (order_on d.self.inside.lines.orders d.next_hold-next.result.hold.rule.resource.0)
-    → held_behind d.self.inside.held.items (order_on d.self.inside.lines.orders d.next_hold-next.result.hold.rule.resource.0) d.args.place ≡ Some d.index.result.now
+behind-is : (g : _) (d : After-index g) → (c : After-next_hold-next g) → All (λ n. n < length d.self.inside.held.items) (order_on d.self.inside.timelines.orders d.next_hold-next.result.hold.rule.resource.0)
+    → held_behind d.self.inside.held.items (order_on d.self.inside.timelines.orders d.next_hold-next.result.hold.rule.resource.0) d.args.place ≡ Some d.index.result.now
 behind-is g d c numbers =
     let below = All-at (λ n. n < length d.self.inside.held.items) _ d.args.place d.at.result numbers d.at.ensures in
     ap (held_of d.self.inside.held.items) d.at.ensures ∙ slice_get_read d.self.inside.held.items (length d.self.inside.held.items) d.at.result d.index.result.now refl below d.index.ensures

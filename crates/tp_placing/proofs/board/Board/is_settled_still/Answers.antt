@@ -16,6 +16,6 @@ returns g c so =
     let some : 0 < length c.self.inside.marks.items = (let e = sym c.is_empty.ensures ∙ c.if-is_empty.false in let n = a.marks.ok.0 in grind (arith, nat_tests)) in
     let first = slice_get_read a.marks.items (length a.marks.items) 0 c.index.result.now refl some c.index.ensures in
     subst (λ (b : BoardValue g.row.N.Denot). All (HasLeastPoints (g.N.Network.reading.net b.net) b.plans) b.plans) c.self.view_is
-    (settled-still g.N.Network.reading (board_of a.net a.lines a.held.items a.plans.items a.firsts.items a.last a.floor a.horizon a.ask a.steps.items a.marks.items a.made_for a.causes a.limit a.settled)
+    (settled-still g.N.Network.reading (board_of a.net a.timelines a.held.items a.plans.items a.firsts.items a.last a.floor a.horizon a.ask a.steps.items a.marks.items a.made_for a.causes a.limit a.settled)
     stands.0 stands.1.0 stands.1.1 c.if-not-self.false c.index.result.now first (omega (arith, c.if-index-gt0.false)) (sym c.self.invariant.marked.board_marks) (c.self.invariant.marked.line_marks ∙ sym c.self.invariant.marked.board_marks)
     (c.may_have_risen.ensures (not-true c.may_have_risen.result so)))

@@ -29,7 +29,7 @@ module _ (g : _) (c : After-deref g) where
   can-before : CanLoad c.args.machine.now c.args.before c.self.inside.plans.items
   can-before = rw (← c.self.view_is) at c.requires.can
 
-  loaded-before : IsLoaded c.args.machine.now c.args.before c.self.inside.plans.items (g.N.Network.reading.net c.self.inside.net) c.self.inside.lines.orders c.self.inside.held.items c.self.inside.firsts.items c.self.inside.causes
+  loaded-before : IsLoaded c.args.machine.now c.args.before c.self.inside.plans.items (g.N.Network.reading.net c.self.inside.net) c.self.inside.timelines.orders c.self.inside.held.items c.self.inside.firsts.items c.self.inside.causes
   loaded-before = rw (← c.self.view_is) at c.requires.loaded
 
   further : AreFurther c.args.machine.now c.args.now c.self.inside.plans.items c.release_all.new.plans.items
@@ -37,12 +37,12 @@ module _ (g : _) (c : After-deref g) where
 
   can : CanLoad c.args.machine.now c.args.now c.release_all.new.plans.items
   can =
-      moved-loads c.args.machine.now c.args.before c.args.now c.self.inside.plans.items (g.N.Network.reading.net c.self.inside.net) c.self.inside.lines.orders c.self.inside.held.items c.self.inside.firsts.items c.self.inside.causes can-before loaded-before
+      moved-loads c.args.machine.now c.args.before c.args.now c.self.inside.plans.items (g.N.Network.reading.net c.self.inside.net) c.self.inside.timelines.orders c.self.inside.held.items c.self.inside.firsts.items c.self.inside.causes can-before loaded-before
       c.release_all.new.plans.items c.requires.later c.requires.last_tick further
 
   points : point_count c.release_all.new.plans.items ≡ length (g.N.Network.reading.net c.self.inside.net).lows
   points =
-      moved-points c.args.machine.now c.args.before c.args.now c.self.inside.plans.items (g.N.Network.reading.net c.self.inside.net) c.self.inside.lines.orders c.self.inside.held.items c.self.inside.firsts.items c.self.inside.causes can-before loaded-before
+      moved-points c.args.machine.now c.args.before c.args.now c.self.inside.plans.items (g.N.Network.reading.net c.self.inside.net) c.self.inside.timelines.orders c.self.inside.held.items c.self.inside.firsts.items c.self.inside.causes can-before loaded-before
       c.release_all.new.plans.items c.requires.later c.requires.last_tick further
 
   few : point_count c.release_all.new.plans.items < 4294967296
@@ -54,14 +54,14 @@ module _ (g : _) (c : After-deref g) where
   unmarked : g.N.Network.reading.past c.self.inside.net ≡ []
   unmarked =
       let m = c.self.invariant.marked in
-      none-marked c.self.inside.held.items c.self.inside.steps.items (g.N.Network.reading.past c.self.inside.net) c.self.inside.lines.past c.self.inside.marks.items m.line_marks m.board_marks (ap (past_of g.N.Network.reading) c.self.view_is ∙ c.requires.unmarked)
+      none-marked c.self.inside.held.items c.self.inside.steps.items (g.N.Network.reading.past c.self.inside.net) c.self.inside.timelines.past c.self.inside.marks.items m.line_marks m.board_marks (ap (past_of g.N.Network.reading) c.self.view_is ∙ c.requires.unmarked)
 
   -- with the bounds of the moment they are loaded
   loaded-after : (net : Net) → net.lows ≡ flat_map (lows_of (c.args.now + c.args.machine.now.lead)) c.deref.result.now → net.caps ≡ flat_map (caps_of (c.args.now + c.args.machine.now.window)) c.deref.result.now
       → net.edges ≡ (g.N.Network.reading.net c.self.inside.net).edges → ((x : ℕ → ℕ) → IsLeast (g.N.Network.reading.net c.self.inside.net) x → IsLeast net x)
-      → IsLoaded c.args.machine.now c.args.now c.release_all.new.plans.items net c.self.inside.lines.orders c.self.inside.held.items c.self.inside.firsts.items c.self.inside.causes
+      → IsLoaded c.args.machine.now c.args.now c.release_all.new.plans.items net c.self.inside.timelines.orders c.self.inside.held.items c.self.inside.firsts.items c.self.inside.causes
   loaded-after net lows caps edges least =
-      moved-loaded c.args.machine.now c.args.before c.args.now c.self.inside.plans.items (g.N.Network.reading.net c.self.inside.net) c.self.inside.lines.orders c.self.inside.held.items c.self.inside.firsts.items c.self.inside.causes can-before loaded-before
+      moved-loaded c.args.machine.now c.args.before c.args.now c.self.inside.plans.items (g.N.Network.reading.net c.self.inside.net) c.self.inside.timelines.orders c.self.inside.held.items c.self.inside.firsts.items c.self.inside.causes can-before loaded-before
       c.release_all.new.plans.items c.requires.later c.requires.last_tick further net
       (lows ∙ ap (flat_map (lows_of (c.args.now + c.args.machine.now.lead))) c.deref.ensures.value) (caps ∙ ap (flat_map (caps_of (c.args.now + c.args.machine.now.window))) c.deref.ensures.value) edges least
 
@@ -74,7 +74,7 @@ move_points-requires-clause-known g c = ap point_count c.deref.ensures.value ∙
 pub move_points-requires-clause-caps : goal.move_points-requires-clause-caps
 move_points-requires-clause-caps g c =
     let k = (goal.at.move_points-requires-clause-caps g c).After-deref in
-    caps-count c.args.machine.now c.args.before c.args.now c.self.inside.plans.items (g.N.Network.reading.net c.self.inside.net) c.self.inside.lines.orders c.self.inside.held.items c.self.inside.firsts.items c.self.inside.causes (can-before g k) (loaded-before g k)
+    caps-count c.args.machine.now c.args.before c.args.now c.self.inside.plans.items (g.N.Network.reading.net c.self.inside.net) c.self.inside.timelines.orders c.self.inside.held.items c.self.inside.firsts.items c.self.inside.causes (can-before g k) (loaded-before g k)
 
 pub move_points-requires-clause-fits : goal.move_points-requires-clause-fits
 move_points-requires-clause-fits g c = omega (arith, ap point_count c.deref.ensures.value, few g (goal.at.move_points-requires-clause-fits g c).After-deref)
@@ -86,7 +86,7 @@ pub move_points-requires-clause-more : goal.move_points-requires-clause-more
 move_points-requires-clause-more g c =
     let k = (goal.at.move_points-requires-clause-more g c).After-deref in
     subst (λ (ps : List Plan). (i : ℕ) → i < point_count ps → slice_index (g.N.Network.reading.net c.self.inside.net).lows i ≤ slice_index (flat_map (lows_of (c.args.now + c.args.machine.now.lead)) ps) i) (sym c.deref.ensures.value)
-    (moved-more c.args.machine.now c.args.before c.args.now c.self.inside.plans.items (g.N.Network.reading.net c.self.inside.net) c.self.inside.lines.orders c.self.inside.held.items c.self.inside.firsts.items c.self.inside.causes (can-before g k) (loaded-before g k)
+    (moved-more c.args.machine.now c.args.before c.args.now c.self.inside.plans.items (g.N.Network.reading.net c.self.inside.net) c.self.inside.timelines.orders c.self.inside.held.items c.self.inside.firsts.items c.self.inside.causes (can-before g k) (loaded-before g k)
     c.release_all.new.plans.items c.requires.later c.requires.last_tick (further g k))
 
 -- ---- the bounds are moved

@@ -20,7 +20,7 @@ use Rattle.tp_placing.proofs.board.Board.next_hold.Goals.{After-index-newest}
 abbrev board : (g : _) → After-index-newest g → BoardValue g.row.N.Denot
 board g c =
     let a = c.self.inside in
-    board_of a.net a.lines a.held.items a.plans.items a.firsts.items a.last a.floor a.horizon a.ask a.steps.items a.marks.items a.made_for a.causes a.limit a.settled
+    board_of a.net a.timelines a.held.items a.plans.items a.firsts.items a.last a.floor a.horizon a.ask a.steps.items a.marks.items a.made_for a.causes a.limit a.settled
 
 -- the board on the machine, with the ask that it keeps
 standing : (g : _) (c : After-index-newest g) → Stands g.N.Network.reading (board g c) c.args.machine.now

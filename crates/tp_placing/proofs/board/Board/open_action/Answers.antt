@@ -30,7 +30,7 @@ use Rattle.tp_placing.proofs.board.Board.open_action.Goals.{After-index-newest}
 abbrev board : (g : _) → After-index-newest g → BoardValue g.row.N.Denot
 board g c =
     let a = c.self.inside in
-    board_of a.net a.lines a.held.items a.plans.items a.firsts.items a.last a.floor a.horizon a.ask a.steps.items a.marks.items a.made_for a.causes a.limit a.settled
+    board_of a.net a.timelines a.held.items a.plans.items a.firsts.items a.last a.floor a.horizon a.ask a.steps.items a.marks.items a.made_for a.causes a.limit a.settled
 
 -- the board on the machine, with the ask that it keeps
 standing : (g : _) (c : After-index-newest g) → Stands g.N.Network.reading (board g c) c.args.machine.now
@@ -53,7 +53,7 @@ here g c =
 lows-here : (g : _) (c : After-index-newest g) → length (g.N.Network.reading.net c.self.inside.net).lows ≡ length (table_of c.self.inside.plans.items) + suc (length (here g c).x.choices)
 lows-here g c =
     let a = c.self.inside in
-    length-lows c.args.machine.now a.plans.items (standing g c).0 (here g c).x a.steps.items (g.N.Network.reading.net a.net) a.lines.orders a.held.items (here g c).at
+    length-lows c.args.machine.now a.plans.items (standing g c).0 (here g c).x a.steps.items (g.N.Network.reading.net a.net) a.timelines.orders a.held.items (here g c).at
 
 -- there is room for one point more
 room-here : (g : _) (c : After-index-newest g) → length (g.N.Network.reading.net c.self.inside.net).lows < 16642
@@ -143,7 +143,7 @@ invariant_of-self-2 g k =
     let few = few-steps g (goal.at.invariant_of-self-2 g k).After-index-newest in
     let len = ap length k.push_reserved.ensures.items ∙ length-append a.steps.items (_ ∷ []) in
     let space = k.push_reserved.ensures.capacity in
-    board-step _ _ _ _ _ _ _ _ _ _ _ _ _ _ k.self.invariant _ _ _ _ a.lines a.held k.push_reserved.new.self a.edges
+    board-step _ _ _ _ _ _ _ _ _ _ _ _ _ _ k.self.invariant _ _ _ _ a.timelines a.held k.push_reserved.new.self a.edges
     (ap length k.in-Ok.ensures.past) k.in-Ok.ensures.same_size.marks k.in-Ok.ensures.same_size.points k.in-Ok.ensures.same_size.edges refl refl refl refl (omega arith) k.self.invariant.capacity.held_few (omega arith)
     (omega arith) (omega arith) (omega arith) (omega arith)
 
@@ -160,20 +160,20 @@ pub returns-clause-past : goal.returns-clause-past
 returns-clause-past g k =
     let a = k.self.inside in
     let i = k.self.invariant.marked.at_marks in
-    rw (← k.self.view_is, k.in-Ok.ensures.past, k.push_reserved.ensures.items) (side-steps a.held.items a.steps.items (_ ∷ []) (g.N.Network.reading.past a.net) a.lines.past a.marks.items (λ j n z. i.steps_below j n z))
+    rw (← k.self.view_is, k.in-Ok.ensures.past, k.push_reserved.ensures.items) (side-steps a.held.items a.steps.items (_ ∷ []) (g.N.Network.reading.past a.net) a.timelines.past a.marks.items (λ j n z. i.steps_below j n z))
 
 -- the board after the call
 after : (g : _) (c : After-index-newest g) (a : Action) (n : Net) (low : ℕ) (edges : List Edge) (steps : List Step) (step : Step) → action_at c.args.machine.now c.args.act.0 ≡ Some a
     → low ≡ min (c.self.inside.floor + c.args.room) (c.self.inside.horizon + 1) → edges ≡ duration_edges a (record { 0 = c.index-newest.result.now.first.0 + 1 }) c.index-newest.result.now.first
     → n ≡ with_edges (with_point (g.N.Network.reading.net c.self.inside.net) low c.self.inside.horizon) edges → HasLeast n
     → steps ≡ c.self.inside.steps.items ++ step ∷ [] → step.newest ≡ Some c.args.act → step.first ≡ record { 0 = c.index-newest.result.now.first.0 + 1 }
-    → IsAtWith c.args.machine.now c.self.inside.plans.items (standing g c).0 (Some (with_action c.args.act c.args.room (here g c).x)) steps n c.self.inside.lines.orders c.self.inside.held.items
+    → IsAtWith c.args.machine.now c.self.inside.plans.items (standing g c).0 (Some (with_action c.args.act c.args.room (here g c).x)) steps n c.self.inside.timelines.orders c.self.inside.held.items
 after g c a n low edges steps step is low_is edges_are added solved pushed newest first =
     let ask = (standing g c).0 in
     let net = added ∙ net-asked g c a low edges low_is edges_are in
     let at = open-at g.N.Network.reading.net (board g c) c.args.machine.now ask c.index-newest.result.now (here g c) c.args.act a is c.args.room (record { 0 = c.index-newest.result.now.first.0 + 1 }) refl
     c.steps_add_edges.ensures.action (subst HasLeast net solved) step newest first in
-    let P : Net → List Step → Type 0 = λ n steps. IsAtWith c.args.machine.now c.self.inside.plans.items ask (Some (with_action c.args.act c.args.room (here g c).x)) steps n c.self.inside.lines.orders c.self.inside.held.items in
+    let P : Net → List Step → Type 0 = λ n steps. IsAtWith c.args.machine.now c.self.inside.plans.items ask (Some (with_action c.args.act c.args.room (here g c).x)) steps n c.self.inside.timelines.orders c.self.inside.held.items in
     subst (λ n. P n steps) (sym net) (subst (P _) (sym pushed) at)
 
 -- and why its edges stand
@@ -207,7 +207,7 @@ returns-clause-stands g k =
     let now = suffix-now g c x k.push_reserved.new.self.items _ (here g c).suffix k.push_reserved.ensures.items refl in
     let caused = caused-after g c k.get.result.now (g.N.Network.reading.net k.extend.new.self) k.lowest-low.result k.lasting-edges.result k.push_reserved.new.self.items _ k.get.ensures k.lowest-low.ensures k.lasting-edges.ensures k.in-Ok.ensures.added k.push_reserved.ensures.items now in (
       (standing g c).0,
-      stands-after g.N.Network.reading (board g c) k.extend.new.self a.lines a.held.items k.push_reserved.new.self.items a.causes c.args.machine.now (standing g c).0 (with_action c.args.act c.args.room x) (standing g c).1
-          (rw (k.in-Ok.ensures.past, k.push_reserved.ensures.items) (side-steps a.held.items a.steps.items (_ ∷ []) (g.N.Network.reading.past a.net) a.lines.past a.marks.items (λ j n z. i.steps_below j n z)))
+      stands-after g.N.Network.reading (board g c) k.extend.new.self a.timelines a.held.items k.push_reserved.new.self.items a.causes c.args.machine.now (standing g c).0 (with_action c.args.act c.args.room x) (standing g c).1
+          (rw (k.in-Ok.ensures.past, k.push_reserved.ensures.items) (side-steps a.held.items a.steps.items (_ ∷ []) (g.N.Network.reading.past a.net) a.timelines.past a.marks.items (λ j n z. i.steps_below j n z)))
           now at (keeps-all _ _) caused,
     )

@@ -26,7 +26,7 @@ use Rattle.tp_placing.proofs.board.Board.open_goal.Goals.{In-Some}
 abbrev board : (g : _) → In-Some g → BoardValue g.row.N.Denot
 board g c =
     let a = c.self.inside in
-    board_of a.net a.lines a.held.items a.plans.items a.firsts.items a.last a.floor a.horizon a.ask a.steps.items a.marks.items a.made_for a.causes a.limit a.settled
+    board_of a.net a.timelines a.held.items a.plans.items a.firsts.items a.last a.floor a.horizon a.ask a.steps.items a.marks.items a.made_for a.causes a.limit a.settled
 
 -- the board on a machine that it stands on, with the ask that it keeps
 stands-here : (g : _) (c : In-Some g) (m : Machine) → Stands g.N.Network.reading c.args.self.now m → StandsOn g.N.Network.reading (board g c) m c.in-Some.ask
@@ -101,7 +101,7 @@ invariant_of-self-2 g k =
     let none = ap length (empty g.N.Network.reading (board g c) c.requires.stands.0 c.in-Some.ask (known g c) (closed g c) k.args.room) in
     let len = ap length k.push_reserved.ensures.items ∙ length-append a.steps.items (_ ∷ []) in
     let space = k.push_reserved.ensures.capacity in
-    board-step _ _ _ _ _ _ _ _ _ _ _ _ _ _ k.self.invariant _ _ _ _ a.lines a.held k.push_reserved.new.self k.line_edges.new.edges
+    board-step _ _ _ _ _ _ _ _ _ _ _ _ _ _ k.self.invariant _ _ _ _ a.timelines a.held k.push_reserved.new.self k.line_edges.new.edges
     (ap length k.in-Ok.ensures.past) k.in-Ok.ensures.same_size.marks k.in-Ok.ensures.same_size.points k.in-Ok.ensures.same_size.edges refl refl refl refl (omega arith) k.self.invariant.capacity.held_few (omega arith)
     (omega arith) (omega arith) (omega arith) k.line_edges.ensures.capacity
 
@@ -112,18 +112,18 @@ pub returns-clause-past : goal.returns-clause-past
 returns-clause-past g k =
     let a = k.self.inside in
     let i = k.self.invariant.marked.at_marks in
-    rw (← k.self.view_is, k.in-Ok.ensures.past, k.push_reserved.ensures.items) (side-steps a.held.items a.steps.items (_ ∷ []) (g.N.Network.reading.past a.net) a.lines.past a.marks.items (λ j n z. i.steps_below j n z))
+    rw (← k.self.view_is, k.in-Ok.ensures.past, k.push_reserved.ensures.items) (side-steps a.held.items a.steps.items (_ ∷ []) (g.N.Network.reading.past a.net) a.timelines.past a.marks.items (λ j n z. i.steps_below j n z))
 
 -- the board after the call
 after : (g : _) (c : In-Some g) (m : Machine) (room : ℕ) → StandsOn g.N.Network.reading (board g c) m c.in-Some.ask → (n : Net) (low : ℕ) (edges : List Edge) (steps : List Step) (step : Step)
     → low ≡ min (c.self.inside.floor + room) (c.self.inside.horizon + 1) → edges ≡ es g c
     → n ≡ with_edges (with_point (g.N.Network.reading.net c.self.inside.net) low c.self.inside.horizon) edges → HasLeast n
     → steps ≡ c.self.inside.steps.items ++ step ∷ [] → step.newest ≡ None → step.first ≡ c.self.inside.last
-    → IsAtWith m c.self.inside.plans.items c.in-Some.ask (Some (with_goal room)) steps n c.self.inside.lines.orders c.self.inside.held.items
+    → IsAtWith m c.self.inside.plans.items c.in-Some.ask (Some (with_goal room)) steps n c.self.inside.timelines.orders c.self.inside.held.items
 after g c m room s n low edges steps step low_is edges_are added solved pushed newest first =
     let net = added ∙ net-asked g c m room s low edges low_is edges_are in
     let at = goal-at g.N.Network.reading (board g c) m c.in-Some.ask s (closed g c) room (subst HasLeast net solved) step newest first in
-    let P : Net → List Step → Type 0 = λ n steps. IsAtWith m c.self.inside.plans.items c.in-Some.ask (Some (with_goal room)) steps n c.self.inside.lines.orders c.self.inside.held.items in
+    let P : Net → List Step → Type 0 = λ n steps. IsAtWith m c.self.inside.plans.items c.in-Some.ask (Some (with_goal room)) steps n c.self.inside.timelines.orders c.self.inside.held.items in
     subst (λ n. P n steps) (sym net) (subst (P _) (sym pushed) at)
 
 -- and why its edges stand
@@ -156,7 +156,7 @@ returns-clause-stands g k m st =
     let now = suffix-now g c k.args.room k.push_reserved.new.self.items _ k.push_reserved.ensures.items refl in
     let caused = caused-after g c m k.args.room s (g.N.Network.reading.net k.extend.new.self) k.lowest-low.result _ k.push_reserved.new.self.items _ k.lowest-low.ensures e k.in-Ok.ensures.added k.push_reserved.ensures.items now in (
       c.in-Some.ask,
-      stands-after g.N.Network.reading (board g c) k.extend.new.self a.lines a.held.items k.push_reserved.new.self.items a.causes m c.in-Some.ask (with_goal k.args.room) s
-          (rw (k.in-Ok.ensures.past, k.push_reserved.ensures.items) (side-steps a.held.items a.steps.items (_ ∷ []) (g.N.Network.reading.past a.net) a.lines.past a.marks.items (λ j n z. i.steps_below j n z)))
+      stands-after g.N.Network.reading (board g c) k.extend.new.self a.timelines a.held.items k.push_reserved.new.self.items a.causes m c.in-Some.ask (with_goal k.args.room) s
+          (rw (k.in-Ok.ensures.past, k.push_reserved.ensures.items) (side-steps a.held.items a.steps.items (_ ∷ []) (g.N.Network.reading.past a.net) a.timelines.past a.marks.items (λ j n z. i.steps_below j n z)))
           now at (keeps-all _ _) caused,
     )

@@ -16,7 +16,7 @@ use Rattle.tp_placing.proofs.board.Board.place.Goals.{After-deref, After-deref-2
 abbrev board : (g : _) → After-deref g → BoardValue g.row.N.Denot
 board g c =
     let a = c.self.inside in
-    board_of a.net a.lines a.held.items a.plans.items a.firsts.items a.last a.floor a.horizon a.ask a.steps.items a.marks.items a.made_for a.causes a.limit a.settled
+    board_of a.net a.timelines a.held.items a.plans.items a.firsts.items a.last a.floor a.horizon a.ask a.steps.items a.marks.items a.made_for a.causes a.limit a.settled
 
 is-next : (g : _) (c : After-deref g) → IsNext g.N.Network.reading (board g c) c.args.machine.now c.args.hold c.args.place c.next_hold-next.result
 is-next g c =
@@ -36,9 +36,9 @@ pub neighbours_of-near-requires-clause-numbers : goal.neighbours_of-near-require
 neighbours_of-near-requires-clause-numbers g k = rw k.deref.ensures.value (numbers-here (is-next g (goal.at.neighbours_of-near-requires-clause-numbers g k).After-deref))
 
 -- the holds that are read are those next to the place
-near-is : (g : _) (d : After-deref-2 g) → AreNeighbours d.self.inside.held.items (order_on d.self.inside.lines.orders d.next_hold-next.result.hold.rule.resource.0) d.args.place d.neighbours_of-near.result
+near-is : (g : _) (d : After-deref-2 g) → AreNeighbours d.self.inside.held.items (order_on d.self.inside.timelines.orders d.next_hold-next.result.hold.rule.resource.0) d.args.place d.neighbours_of-near.result
 near-is g d =
-    let order = order_on d.self.inside.lines.orders d.next_hold-next.result.hold.rule.resource.0 in
+    let order = order_on d.self.inside.timelines.orders d.next_hold-next.result.hold.rule.resource.0 in
     subst (λ hs. AreNeighbours hs order d.args.place d.neighbours_of-near.result) d.deref.ensures.value (record { before = d.neighbours_of-near.ensures.before; behind = d.neighbours_of-near.ensures.behind })
 
 -- the causes that are written are those of the edges to them
@@ -125,23 +125,23 @@ invariant_of-self-2 g k =
     let holds = held-fit (is-next g c) in
     let steps_len = ap length p.steps ∙ length-append a.steps.items (_ ∷ []) in
     let held_len = ap length p.held ∙ length-append a.held.items (_ ∷ []) in
-    let lines_len = ap length p.orders ∙ length-set a.lines.orders _ _ in
+    let lines_len = ap length p.orders ∙ length-set a.timelines.orders _ _ in
     let steps_space = k.insert_hold.ensures.step_space in
     let held_space = k.insert_hold.ensures.held_space in
     let made_space = k.neighbour_edges.ensures.capacity in
-    board-step _ _ _ _ _ _ _ _ _ _ _ _ _ _ k.self.invariant _ _ _ _ k.insert_hold.new.lines k.insert_hold.new.held k.insert_hold.new.steps k.neighbour_edges.new.edges
+    board-step _ _ _ _ _ _ _ _ _ _ _ _ _ _ k.self.invariant _ _ _ _ k.insert_hold.new.timelines k.insert_hold.new.held k.insert_hold.new.steps k.neighbour_edges.new.edges
     (ap length k.in-Ok.ensures.past) k.in-Ok.ensures.same_size.marks k.in-Ok.ensures.same_size.points k.in-Ok.ensures.same_size.edges (ap length p.past) p.max_marks lines_len p.hold_capacity
     (omega arith) (omega arith) (omega arith) (omega arith) (omega arith) (omega arith) (omega arith)
 
 pub returns-clause-suffix : goal.returns-clause-suffix
 returns-clause-suffix g k =
     let c = (goal.at.returns-clause-suffix g k).After-deref in
-    rw (← c.self.view_is) (suffix-now (is-next g c) k.require_all.new.self k.note_neighbours.new.causes k.insert_hold.new.lines k.insert_hold.new.held.items k.insert_hold.new.steps.items k.insert_hold.ensures.inserted)
+    rw (← c.self.view_is) (suffix-now (is-next g c) k.require_all.new.self k.note_neighbours.new.causes k.insert_hold.new.timelines k.insert_hold.new.held.items k.insert_hold.new.steps.items k.insert_hold.ensures.inserted)
 
 pub returns-clause-past : goal.returns-clause-past
 returns-clause-past g k =
     let c = (goal.at.returns-clause-past g k).After-deref in
-    rw (← c.self.view_is) (past-now (is-next g c) k.require_all.new.self k.note_neighbours.new.causes k.insert_hold.new.lines k.insert_hold.new.held.items k.insert_hold.new.steps.items k.insert_hold.ensures.inserted
+    rw (← c.self.view_is) (past-now (is-next g c) k.require_all.new.self k.note_neighbours.new.causes k.insert_hold.new.timelines k.insert_hold.new.held.items k.insert_hold.new.steps.items k.insert_hold.ensures.inserted
     k.self.invariant.marked.at_marks k.in-Ok.ensures.past)
 
 pub returns-clause-times : goal.returns-clause-times
@@ -149,15 +149,15 @@ returns-clause-times g k =
     let c = (goal.at.returns-clause-times g k).After-deref in
     let d = (goal.at.returns-clause-times g k).After-deref-2 in
     let added = k.in-Ok.ensures.added ∙ ap (with_edges (g.N.Network.reading.net c.self.inside.net)) (edges-made g d) in
-    let at = at-around (is-next g c) k.require_all.new.self k.note_neighbours.new.causes k.insert_hold.new.lines k.insert_hold.new.held.items k.insert_hold.new.steps.items k.insert_hold.ensures.inserted c.steps_add_edges.ensures.place added k.in-Ok.ensures.solved in
-    times-now (is-next g c) k.require_all.new.self k.note_neighbours.new.causes k.insert_hold.new.lines k.insert_hold.new.held.items k.insert_hold.new.steps.items k.insert_hold.ensures.inserted c.solutions_are_ticks.ensures.board at
+    let at = at-around (is-next g c) k.require_all.new.self k.note_neighbours.new.causes k.insert_hold.new.timelines k.insert_hold.new.held.items k.insert_hold.new.steps.items k.insert_hold.ensures.inserted c.steps_add_edges.ensures.place added k.in-Ok.ensures.solved in
+    times-now (is-next g c) k.require_all.new.self k.note_neighbours.new.causes k.insert_hold.new.timelines k.insert_hold.new.held.items k.insert_hold.new.steps.items k.insert_hold.ensures.inserted c.solutions_are_ticks.ensures.board at
 
 pub returns-clause-stands : goal.returns-clause-stands
 returns-clause-stands g k =
     let c = (goal.at.returns-clause-stands g k).After-deref in
     let d = (goal.at.returns-clause-stands g k).After-deref-2 in
     let added = k.in-Ok.ensures.added ∙ ap (with_edges (g.N.Network.reading.net c.self.inside.net)) (edges-made g d) in
-    let at = at-around (is-next g c) k.require_all.new.self k.note_neighbours.new.causes k.insert_hold.new.lines k.insert_hold.new.held.items k.insert_hold.new.steps.items k.insert_hold.ensures.inserted c.steps_add_edges.ensures.place added k.in-Ok.ensures.solved in
-    let caused = caused-around (is-next g c) k.require_all.new.self k.note_neighbours.new.causes k.insert_hold.new.lines k.insert_hold.new.held.items k.insert_hold.new.steps.items k.insert_hold.ensures.inserted c.gaps_are_hops.ensures.place added (causes-made g d) in
-    stands-now (is-next g c) k.require_all.new.self k.note_neighbours.new.causes k.insert_hold.new.lines k.insert_hold.new.held.items k.insert_hold.new.steps.items k.insert_hold.ensures.inserted
+    let at = at-around (is-next g c) k.require_all.new.self k.note_neighbours.new.causes k.insert_hold.new.timelines k.insert_hold.new.held.items k.insert_hold.new.steps.items k.insert_hold.ensures.inserted c.steps_add_edges.ensures.place added k.in-Ok.ensures.solved in
+    let caused = caused-around (is-next g c) k.require_all.new.self k.note_neighbours.new.causes k.insert_hold.new.timelines k.insert_hold.new.held.items k.insert_hold.new.steps.items k.insert_hold.ensures.inserted c.gaps_are_hops.ensures.place added (causes-made g d) in
+    stands-now (is-next g c) k.require_all.new.self k.note_neighbours.new.causes k.insert_hold.new.timelines k.insert_hold.new.held.items k.insert_hold.new.steps.items k.insert_hold.ensures.inserted
     k.self.invariant.marked.at_marks k.in-Ok.ensures.past (causes-made g d) at caused

@@ -11,5 +11,5 @@ returns g c m st' =
     let st = rw (← c.self.view_is) at st' in
     let made = st.1.made.1 in
     let known = rw (← c.self.view_is) at c.requires in
-    let l = length-slots (board_table a.plans.items (suffix_after a.steps.items)) a.held.items (order_on a.lines.orders c.args.resource.0) (order_after m a.plans.items (suffix_after a.steps.items) c.args.resource.0) (st.1.now.orders c.args.resource.0 (omega arith)) in
+    let l = length-slots (board_table a.plans.items (suffix_after a.steps.items)) a.held.items (order_on a.timelines.orders c.args.resource.0) (order_after m a.plans.items (suffix_after a.steps.items) c.args.resource.0) (st.1.now.orders c.args.resource.0 (omega arith)) in
     rw (← c.self.view_is) (c.len.ensures.len ∙ l)

@@ -27,14 +27,14 @@ returns-clause-shown g c m st' =
     let st = rw (← c.self.view_is) at st' in
     let h = refuses-here g.N.Network.reading _ c.args.last (rw (← c.self.view_is) at c.requires.below) (rw (← c.self.view_is) at c.requires.open) in
     and-some (suffix_after a.steps.items) h.x _ h.suffix (and-some a.ask st.0 _ st.1.asked
-    (end-reason g.N.Network.reading (board_of a.net a.lines a.held.items a.plans.items a.firsts.items a.last a.floor a.horizon a.ask a.steps.items a.marks.items a.made_for a.causes a.limit a.settled)
+    (end-reason g.N.Network.reading (board_of a.net a.timelines a.held.items a.plans.items a.firsts.items a.last a.floor a.horizon a.ask a.steps.items a.marks.items a.made_for a.causes a.limit a.settled)
     m st.0 st.1 h.x h.suffix c.args.last g.N.Network.refutes c.refuse_by-limit.new.net c.refuse_by-limit.result c.refuse_by-limit.ensures.limit c.refuse_by-limit.ensures.refused))
 
 pub returns-clause-stands : goal.returns-clause-stands
 returns-clause-stands g c m st' =
     let a = c.self.inside in
     let st = rw (← c.self.view_is) at st' in
-    let b = board_of a.net a.lines a.held.items a.plans.items a.firsts.items a.last a.floor a.horizon a.ask a.steps.items a.marks.items a.made_for a.causes a.limit a.settled in (
+    let b = board_of a.net a.timelines a.held.items a.plans.items a.firsts.items a.last a.floor a.horizon a.ask a.steps.items a.marks.items a.made_for a.causes a.limit a.settled in (
       st.0,
       stands-still g.N.Network.reading b c.refuse_by-limit.new.net a.causes (Some c.refuse_by-limit.result) m st.0 st.1 c.refuse_by-limit.ensures.same c.refuse_by-limit.ensures.past
           (keeps-all _ _),

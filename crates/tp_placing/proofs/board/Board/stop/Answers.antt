@@ -31,7 +31,7 @@ use Rattle.tp_placing.proofs.board.Board.stop.Goals.{After-edge_between, After-p
 abbrev board : (g : _) → After-edge_between g → BoardValue g.row.N.Denot
 board g c =
     let a = c.self.inside in
-    board_of a.net a.lines a.held.items a.plans.items a.firsts.items a.last a.floor a.horizon a.ask a.steps.items a.marks.items a.made_for a.causes a.limit a.settled
+    board_of a.net a.timelines a.held.items a.plans.items a.firsts.items a.last a.floor a.horizon a.ask a.steps.items a.marks.items a.made_for a.causes a.limit a.settled
 
 -- the board on a machine that it stands on, with the ask that it keeps
 stands-here : (g : _) (c : After-edge_between g) (m : Machine) → Stands g.N.Network.reading c.args.self.now m
@@ -63,7 +63,7 @@ lows-here : (g : _) (c : After-edge_between g) → length (g.N.Network.reading.n
 lows-here g c =
     let h = known g c in
     let a = c.self.inside in
-    length-lows c.requires.stands.0 a.plans.items c.in-Some.ask h.x a.steps.items (g.N.Network.reading.net a.net) a.lines.orders a.held.items h.at
+    length-lows c.requires.stands.0 a.plans.items c.in-Some.ask h.x a.steps.items (g.N.Network.reading.net a.net) a.timelines.orders a.held.items h.at
 
 pub require-requires-clause-from : goal.require-requires-clause-from
 require-requires-clause-from g c =
@@ -128,7 +128,7 @@ invariant_of-self-2 g k =
     let few = few-here g (goal.at.invariant_of-self-2 g k).After-edge_between in
     let len = ap length k.push_reserved.ensures.items ∙ length-append a.steps.items (_ ∷ []) in
     let cap = k.push_reserved.ensures.capacity in
-    board-step _ _ _ _ _ _ _ _ _ _ _ _ _ _ k.self.invariant _ _ _ _ a.lines a.held k.push_reserved.new.self a.edges
+    board-step _ _ _ _ _ _ _ _ _ _ _ _ _ _ k.self.invariant _ _ _ _ a.timelines a.held k.push_reserved.new.self a.edges
     (ap length k.in-Ok.ensures.past) k.in-Ok.ensures.same_size.marks k.in-Ok.ensures.same_size.points k.in-Ok.ensures.same_size.edges refl refl refl refl (omega arith) k.self.invariant.capacity.held_few (omega arith)
     (omega arith) (omega arith) (omega arith) (omega arith)
 
@@ -140,25 +140,25 @@ returns-clause-suffix g k =
     let y = some-and (suffix_of k.args.self.now) _ k.requires.going in
     and-some (suffix_of k.args.self.now) y.0 _ y.1 (suffix-now g k y.0 (ap (λ (b : BoardValue g.row.N.Denot). suffix_after b.steps) k.self.view_is ∙ y.1))
 
-past-now : (g : _) (k : After-push_reserved g) → side_by_side k.self.inside.held.items k.push_reserved.new.self.items (g.N.Network.reading.past k.require.new.self) k.self.inside.lines.past k.self.inside.marks.items
-    ≡ side_by_side k.self.inside.held.items k.self.inside.steps.items (g.N.Network.reading.past k.self.inside.net) k.self.inside.lines.past k.self.inside.marks.items
+past-now : (g : _) (k : After-push_reserved g) → side_by_side k.self.inside.held.items k.push_reserved.new.self.items (g.N.Network.reading.past k.require.new.self) k.self.inside.timelines.past k.self.inside.marks.items
+    ≡ side_by_side k.self.inside.held.items k.self.inside.steps.items (g.N.Network.reading.past k.self.inside.net) k.self.inside.timelines.past k.self.inside.marks.items
 past-now g k =
     let a = k.self.inside in
     let i = k.self.invariant.marked.at_marks in
-    rw (k.in-Ok.ensures.past, k.push_reserved.ensures.items) (side-steps a.held.items a.steps.items (_ ∷ []) (g.N.Network.reading.past a.net) a.lines.past a.marks.items (λ j n z. i.steps_below j n z))
+    rw (k.in-Ok.ensures.past, k.push_reserved.ensures.items) (side-steps a.held.items a.steps.items (_ ∷ []) (g.N.Network.reading.past a.net) a.timelines.past a.marks.items (λ j n z. i.steps_below j n z))
 
 pub returns-clause-past : goal.returns-clause-past
 returns-clause-past g k = rw (← k.self.view_is) (past-now g k)
 
 at-now : (g : _) (c : After-edge_between g) (m : Machine) (s : StandsOn g.N.Network.reading (board g c) m c.in-Some.ask) (n : Net) (items : List Step) (step : Step)
     → n ≡ with_edge (g.N.Network.reading.net c.self.inside.net) c.edge_between.result → HasLeast n → items ≡ c.self.inside.steps.items ++ step ∷ [] → step.first ≡ c.index-newest.result.now.first → step.newest ≡ c.index-newest.result.now.newest
-    → IsAtWith m c.self.inside.plans.items c.in-Some.ask (Some (with_stop (here g c m s).x)) items n c.self.inside.lines.orders c.self.inside.held.items
+    → IsAtWith m c.self.inside.plans.items c.in-Some.ask (Some (with_stop (here g c m s).x)) items n c.self.inside.timelines.orders c.self.inside.held.items
 at-now g c m s n items step added solved pushed first newest =
     let a = c.self.inside in
     let h = here g c m s in
     let e : n ≡ with_edge (g.N.Network.reading.net a.net) (edge_of c.index-newest.result.now.first c.point_of-end.result (pos 0) stop_tag) = added ∙ ap (with_edge (g.N.Network.reading.net a.net)) c.edge_between.ensures in
     let at = stop-solved g.N.Network.reading.net (board g c) m c.in-Some.ask c.index-newest.result.now c.point_of-end.result h c.steps_add_edges.ensures.stop s.origin (subst HasLeast e solved) step first newest in
-    let P : Net → List Step → Type 0 = λ n items. IsAtWith m a.plans.items c.in-Some.ask (Some (with_stop h.x)) items n a.lines.orders a.held.items in
+    let P : Net → List Step → Type 0 = λ n items. IsAtWith m a.plans.items c.in-Some.ask (Some (with_stop h.x)) items n a.timelines.orders a.held.items in
     subst (λ n. P n items) (sym e) (subst (P (with_edge (g.N.Network.reading.net a.net) (edge_of c.index-newest.result.now.first c.point_of-end.result (pos 0) stop_tag))) (sym pushed) at)
 
 caused-now : (g : _) (c : After-edge_between g) (m : Machine) (s : StandsOn g.N.Network.reading (board g c) m c.in-Some.ask) (n : Net) (items : List Step) (step : Step)
@@ -188,4 +188,4 @@ returns-clause-stands g k m st =
     let at = at-now g c m s (g.N.Network.reading.net k.require.new.self) k.push_reserved.new.self.items _ k.in-Ok.ensures.added k.in-Ok.ensures.solved k.push_reserved.ensures.items refl refl in
     let now = suffix-now g k h.x h.suffix in
     let caused = caused-now g c m s (g.N.Network.reading.net k.require.new.self) k.push_reserved.new.self.items _ k.in-Ok.ensures.added k.push_reserved.ensures.items now in
-    (c.in-Some.ask, stands-after g.N.Network.reading (board g c) k.require.new.self c.self.inside.lines c.self.inside.held.items k.push_reserved.new.self.items c.self.inside.causes m c.in-Some.ask (with_stop h.x) s (past-now g k) now at (keeps-all _ _) caused)
+    (c.in-Some.ask, stands-after g.N.Network.reading (board g c) k.require.new.self c.self.inside.timelines c.self.inside.held.items k.push_reserved.new.self.items c.self.inside.causes m c.in-Some.ask (with_stop h.x) s (past-now g k) now at (keeps-all _ _) caused)

@@ -14,7 +14,7 @@ earliest-requires g c =
     let a = c.self.inside in
     let st = rw (← c.self.view_is) at c.requires.stands in
     let at = ap (λ ps. slice_get (table_of ps) c.point_of-number.result.0) (sym c.deref.ensures.value) ∙ c.point_of-number.ensures in
-    known-point st.0 a.plans.items st.1.0 (suffix_after a.steps.items) a.steps.items (g.N.Network.reading.net a.net) a.lines.orders a.held.items st.1.1.now c.point_of-number.result.0 (kept c.args.sheet c.args.point)
+    known-point st.0 a.plans.items st.1.0 (suffix_after a.steps.items) a.steps.items (g.N.Network.reading.net a.net) a.timelines.orders a.held.items st.1.1.now c.point_of-number.result.0 (kept c.args.sheet c.args.point)
     (table-left a.plans.items (own_points (suffix_after a.steps.items)) c.point_of-number.result.0 (kept c.args.sheet c.args.point) at)
 
 pub returns : goal.returns
@@ -23,5 +23,5 @@ returns g c m st' =
     let st = rw (← c.self.view_is) at st' in
     let at = ap (λ ps. slice_get (table_of ps) c.point_of-number.result.0) (sym c.deref.ensures.value) ∙ c.point_of-number.ensures in
     rw (← c.self.view_is) (and-some a.ask st.0 _ st.1.asked
-    (least-tick m a.plans.items st.0 (suffix_after a.steps.items) a.steps.items (g.N.Network.reading.net a.net) a.lines.orders a.held.items st.1.now c.point_of-number.result.0 (kept c.args.sheet c.args.point)
+    (least-tick m a.plans.items st.0 (suffix_after a.steps.items) a.steps.items (g.N.Network.reading.net a.net) a.timelines.orders a.held.items st.1.now c.point_of-number.result.0 (kept c.args.sheet c.args.point)
     (table-left a.plans.items (own_points (suffix_after a.steps.items)) c.point_of-number.result.0 (kept c.args.sheet c.args.point) at) c.earliest.result c.earliest.ensures))

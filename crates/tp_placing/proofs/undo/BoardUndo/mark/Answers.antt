@@ -13,12 +13,12 @@ invariant_of-self g c =
     let a = c.self.inside in
     let i = c.self.invariant.marked in
     let r = c.self.invariant.capacity in
-    let q = rw (← c.self.view_is, length-side a.held.items a.steps.items (g.N.Network.reading.past a.net) a.lines.past a.marks.items i.line_marks i.board_marks) at c.requires in
+    let q = rw (← c.self.view_is, length-side a.held.items a.steps.items (g.N.Network.reading.past a.net) a.timelines.past a.marks.items i.line_marks i.board_marks) at c.requires in
     let kept = g.met.N.Network.kept_by_marks in
     let e1 = ap length (kept.marked _ _ c.mark-mark.ensures.past) in
     let e2 = length-append (g.N.Network.reading.past a.net) (g.N.Network.reading.net a.net ∷ []) in
     let f1 = ap length c.mark-line_mark.ensures.past in
-    let f2 = length-append a.lines.past (a.lines.orders ∷ []) in
+    let f2 = length-append a.timelines.past (a.timelines.orders ∷ []) in
     let h1 = ap length c.push_reserved.ensures.items ∙ length-append a.marks.items (_ ∷ []) in
     let o = ap (λ (s : Sizes). s.resources) c.mark-line_mark.ensures.untouched in
     let hr = ap (λ (s : Sizes). s.hold_capacity) c.mark-line_mark.ensures.untouched in
@@ -59,7 +59,7 @@ pub returns-clause-number : goal.returns-clause-number
 returns-clause-number g c =
     let a = c.self.inside in
     let i = c.self.invariant.marked in
-    rw (← c.self.view_is) (c.mark-mark.ensures.number ∙ sym (g.met.N.Network.kept_by_marks.count _) ∙ sym (length-side a.held.items a.steps.items (g.N.Network.reading.past a.net) a.lines.past a.marks.items i.line_marks i.board_marks))
+    rw (← c.self.view_is) (c.mark-mark.ensures.number ∙ sym (g.met.N.Network.kept_by_marks.count _) ∙ sym (length-side a.held.items a.steps.items (g.N.Network.reading.past a.net) a.timelines.past a.marks.items i.line_marks i.board_marks))
 
 pub returns-clause-past : goal.returns-clause-past
 returns-clause-past g c =
@@ -67,4 +67,4 @@ returns-clause-past g c =
     let i = c.self.invariant.marked in
     let marked = g.met.N.Network.kept_by_marks.marked _ _ c.mark-mark.ensures.past in
     rw (← c.self.view_is, marked, c.mark-line_mark.ensures.past, c.push_reserved.ensures.items)
-    (side-push a.held.items a.steps.items (g.N.Network.reading.past a.net) a.lines.past a.marks.items (g.N.Network.reading.net a.net) a.lines.orders _ i.line_marks i.board_marks (c.len-2.ensures ∙ a.held.ok.0) (c.len.ensures ∙ a.steps.ok.0))
+    (side-push a.held.items a.steps.items (g.N.Network.reading.past a.net) a.timelines.past a.marks.items (g.N.Network.reading.net a.net) a.timelines.orders _ i.line_marks i.board_marks (c.len-2.ensures ∙ a.held.ok.0) (c.len.ensures ∙ a.steps.ok.0))

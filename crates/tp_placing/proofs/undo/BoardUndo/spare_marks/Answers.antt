@@ -6,7 +6,7 @@ pub returns : goal.returns
 returns g c =
     let a = c.self.inside in
     let i = c.self.invariant.marked in
-    let l = length-side a.held.items a.steps.items (g.N.Network.reading.past a.net) a.lines.past a.marks.items i.line_marks i.board_marks in
+    let l = length-side a.held.items a.steps.items (g.N.Network.reading.past a.net) a.timelines.past a.marks.items i.line_marks i.board_marks in
     let s = i.spare in
     let e = c.spare_marks.ensures in
     let kept = g.met.N.Network.kept_by_marks in

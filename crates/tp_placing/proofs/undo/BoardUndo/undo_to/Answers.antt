@@ -10,7 +10,7 @@ within : goal.undo_to-requires
 within g c =
     let a = c.self.inside in
     let i = c.self.invariant.marked in
-    let q = rw (← c.self.view_is, length-side a.held.items a.steps.items (g.N.Network.reading.past a.net) a.lines.past a.marks.items i.line_marks i.board_marks) at c.requires in
+    let q = rw (← c.self.view_is, length-side a.held.items a.steps.items (g.N.Network.reading.past a.net) a.timelines.past a.marks.items i.line_marks i.board_marks) at c.requires in
     can-undo g.met.N.Network.kept_by_marks a.net c.args.mark.0 q
 
 pub undo_to-requires : goal.undo_to-requires
@@ -20,7 +20,7 @@ pub undo_to-requires-2 : goal.undo_to-requires-2
 undo_to-requires-2 g c =
     let a = c.self.inside in
     let i = c.self.invariant.marked in
-    let q = rw (← c.self.view_is, length-side a.held.items a.steps.items (g.N.Network.reading.past a.net) a.lines.past a.marks.items i.line_marks i.board_marks) at c.requires in
+    let q = rw (← c.self.view_is, length-side a.held.items a.steps.items (g.N.Network.reading.past a.net) a.timelines.past a.marks.items i.line_marks i.board_marks) at c.requires in
     let e = i.line_marks in
     omega arith
 
@@ -28,7 +28,7 @@ pub index-counts-requires : goal.index-counts-requires
 index-counts-requires g c =
     let a = c.self.inside in
     let i = c.self.invariant.marked in
-    let q = rw (← c.self.view_is, length-side a.held.items a.steps.items (g.N.Network.reading.past a.net) a.lines.past a.marks.items i.line_marks i.board_marks) at c.requires in
+    let q = rw (← c.self.view_is, length-side a.held.items a.steps.items (g.N.Network.reading.past a.net) a.timelines.past a.marks.items i.line_marks i.board_marks) at c.requires in
     let e = i.board_marks in
     let o = a.marks.ok.0 in
     omega arith
@@ -39,7 +39,7 @@ invariant_of-self g c =
     let i = c.self.invariant.marked in
     let r = c.self.invariant.capacity in
     let k = c.args.mark.0 in
-    let q = rw (← c.self.view_is, length-side a.held.items a.steps.items (g.N.Network.reading.past a.net) a.lines.past a.marks.items i.line_marks i.board_marks) at c.requires in
+    let q = rw (← c.self.view_is, length-side a.held.items a.steps.items (g.N.Network.reading.past a.net) a.timelines.past a.marks.items i.line_marks i.board_marks) at c.requires in
     let i1 = i.spare in let i2 = i.line_marks in let i3 = i.line_capacity in let i4 = i.board_marks in let i5 = i.mark_space in
     let mo = a.marks.ok.0 in
     let at = slice_get_read a.marks.items (length a.marks.items) k c.index-counts.result.now refl (omega arith) c.index-counts.ensures in
@@ -47,7 +47,7 @@ invariant_of-self g c =
     let h = i.at_marks.held_below k c.index-counts.result.now at in
     let kept = g.met.N.Network.kept_by_marks in
     let e1 = ap length (kept.fewer _ _ k c.undo_to.ensures.past) ∙ length-take-le k (g.N.Network.reading.past a.net) (omega arith) in
-    let f1 = ap length c.undo_to-2.ensures.past ∙ length-take-le k a.lines.past (omega arith) in
+    let f1 = ap length c.undo_to-2.ensures.past ∙ length-take-le k a.timelines.past (omega arith) in
     let h1 = ap length c.truncate-3.ensures.items ∙ length-take-le k a.marks.items (omega arith) in
     let st = ap length c.truncate-2.ensures.items ∙ length-take-le c.index-counts.result.now.steps a.steps.items s in
     let hd = ap length c.truncate.ensures.items ∙ length-take-le c.index-counts.result.now.held a.held.items h in
@@ -92,20 +92,20 @@ returns-clause-content g c =
     let a = c.self.inside in
     let i = c.self.invariant.marked in
     let k = c.args.mark.0 in
-    let q = rw (← c.self.view_is, length-side a.held.items a.steps.items (g.N.Network.reading.past a.net) a.lines.past a.marks.items i.line_marks i.board_marks) at c.requires in
+    let q = rw (← c.self.view_is, length-side a.held.items a.steps.items (g.N.Network.reading.past a.net) a.timelines.past a.marks.items i.line_marks i.board_marks) at c.requires in
     let i4 = i.board_marks in
     let at = slice_get_read a.marks.items (length a.marks.items) k c.index-counts.result.now refl (omega arith) c.index-counts.ensures in
     rw (← c.self.view_is, c.truncate.ensures.items, c.truncate-2.ensures.items)
-    (side-get a.held.items a.steps.items (g.N.Network.reading.past a.net) a.lines.past a.marks.items k _ _ c.index-counts.result.now (g.met.N.Network.kept_by_marks.back _ _ k c.undo_to.ensures.content) c.undo_to-2.ensures.content at)
+    (side-get a.held.items a.steps.items (g.N.Network.reading.past a.net) a.timelines.past a.marks.items k _ _ c.index-counts.result.now (g.met.N.Network.kept_by_marks.back _ _ k c.undo_to.ensures.content) c.undo_to-2.ensures.content at)
 
 pub returns-clause-past : goal.returns-clause-past
 returns-clause-past g c =
     let a = c.self.inside in
     let i = c.self.invariant.marked in
     let k = c.args.mark.0 in
-    let q = rw (← c.self.view_is, length-side a.held.items a.steps.items (g.N.Network.reading.past a.net) a.lines.past a.marks.items i.line_marks i.board_marks) at c.requires in
+    let q = rw (← c.self.view_is, length-side a.held.items a.steps.items (g.N.Network.reading.past a.net) a.timelines.past a.marks.items i.line_marks i.board_marks) at c.requires in
     let i4 = i.board_marks in
     let at = slice_get_read a.marks.items (length a.marks.items) k c.index-counts.result.now refl (omega arith) c.index-counts.ensures in
     rw (← c.self.view_is, c.truncate.ensures.items, c.truncate-2.ensures.items, c.truncate-3.ensures.items, g.met.N.Network.kept_by_marks.fewer _ _ k c.undo_to.ensures.past, c.undo_to-2.ensures.past)
-    (side-take a.held.items a.steps.items (g.N.Network.reading.past a.net) a.lines.past a.marks.items k c.index-counts.result.now.held c.index-counts.result.now.steps
+    (side-take a.held.items a.steps.items (g.N.Network.reading.past a.net) a.timelines.past a.marks.items k c.index-counts.result.now.held c.index-counts.result.now.steps
     (λ j m l z. (i.at_marks.held_rise j k m _ l z at, i.at_marks.steps_rise j k m _ l z at)))

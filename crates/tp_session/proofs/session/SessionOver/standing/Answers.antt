@@ -3,7 +3,7 @@ use Rattle.std.proofs.Common.{◌≡◌, ℕ, ◌≤◌, length, Result, Ok, Err
 use Rattle.std.specs.Prelude.{IfOk}
 use Rattle.tp_session.specs.Kept.{CanBeSaved}
 use Rattle.tp_session_standing.specs.Sound.{IsSound, last_number, most_jobs}
-use Rattle.tp_session_standing.specs.Told.{standing_of}
+use Rattle.tp_session_standing.specs.StandingStates.{standing_of}
 use Rattle.tp_event_rules.specs.LiveStates.{seen}
 use Rattle.tp_session.proofs.session.SessionOver.standing.Goals as goal
 

@@ -39,17 +39,17 @@ refill_at taken loc (f ∷ feeders) [] = pos 0
 refill_at taken loc (f ∷ feeders) (free ∷ stock) =
     if f.loc.0 == loc then refill_by taken f.stock free else (refill_at taken loc feeders stock)
 
-abbrev pub told_refills : Machine → Standing → List ℤ
-told_refills machine t = by_location (λ loc. refill_at (taken_at machine t.plans loc) loc machine.feeders t.stock)
+abbrev pub standing_refills : Machine → Standing → List ℤ
+standing_refills machine t = by_location (λ loc. refill_at (taken_at machine t.plans loc) loc machine.feeders t.stock)
 
 -- the state that a standing tells: the copies whose plans aren't whole are lost, and as much as it says is free
-abbrev pub told : Machine → Standing → SessionState
-told machine t = record {
+abbrev pub standing_state : Machine → Standing → SessionState
+standing_state machine t = record {
   now = t.now;
   plans = t.plans;
   lost = fronts_of t.plans;
   jobs = t.jobs;
   waiting = t.waiting;
   outs = t.outs;
-  refills = told_refills machine t;
+  refills = standing_refills machine t;
 }

@@ -1,28 +1,28 @@
-//! A line of points.
+//! A queue of points.
 ghost use Rattle.std.specs.Prelude.{◌≡◌, ℕ, ◌*◌, ◌<◌, ◌≤◌, ◌^◌, length, drop, [], ◌∷◌, ◌++◌, IfOk, IfSome, IfNone, vec_len, vec_capacity};
 
 use std::alloc::{AllocError, Global};
 use std::marker::Model;
 
-/// A line of points, first come first served. Each step is in constant time, taken over many.
+/// A queue of points, first in first out. Each step takes amortized constant time.
 #[derive(Drop)]
-pub(crate) struct Line {
-    /// The points in the line, behind those that were taken.
+pub(crate) struct PointQueue {
+    /// The points in the queue, behind those that were taken.
     points: Vec<u32>,
     taken: usize,
 }
 
 // Clauses see the points that are not taken, and how many there can be.
-impl Model for Line {
-    ghost use Rattle.tp_stn_undo.specs.Flags.{LineValue};
+impl Model for PointQueue {
+    ghost use Rattle.tp_stn_undo.specs.Flags.{QueueValue};
 
-    ghost Value = { LineValue };
+    ghost Value = { QueueValue };
 
-    ghost use Rattle.tp_stn_undo.specs.Lines.{line_of, IsLine};
+    ghost use Rattle.tp_stn_undo.specs.PointQueues.{queue_of, IsQueue};
 
-    ghost view = { line_of };
+    ghost view = { queue_of };
 
-    ghost invariant = { IsLine };
+    ghost invariant = { IsQueue };
 }
 
 /// Drops the points that were taken where the memory is full. It is full once in so many steps as there can be points.
@@ -43,14 +43,14 @@ fn make_capacity(points: &mut Vec<u32>, taken: &mut usize)
     *taken = 0;
 }
 
-impl Line {
-    /// A line of no points, with memory for twice so many: what was taken is dropped once in so many steps.
-    pub(crate) fn new(alloc: Global, points: usize) -> Result<Line, AllocError>
+impl PointQueue {
+    /// An empty queue, with memory for twice as many points: those that were taken are dropped once in as many steps.
+    pub(crate) fn new(alloc: Global, points: usize) -> Result<PointQueue, AllocError>
         requires { points < 2 ^ 32 }
         ensures none { IfOk result (λ l. l.points ≡ []) }
         ensures capacity { IfOk result (λ l. points ≤ l.capacity) }
     {
-        Ok(Line {
+        Ok(PointQueue {
             points: Vec::with_capacity(alloc, points * 2)?,
             taken: 0,
         })
