@@ -121,7 +121,7 @@ impl Branch {
         self.choices.places(at)
     }
 
-    /// The same at another depth.
+    /// This branch, cut or grown to another depth.
     pub(crate) fn deeper(&self, depth: u32) -> Branch
         ensures { result ≡ record { depth = depth; first = self.now.first; x = self.now.x } }
     {

@@ -185,7 +185,7 @@ impl<'a> CheckScene<'a> {
         put.gap(apart, cut)
     }
 
-    /// The same where the next hold of the branch is on the resource and has several places.
+    /// The gap between two holds of the resource, if the next hold of the branch is on the resource too and has several places.
     fn span_gap(&self, stand: &Stand, resource: u16, ends: &Ends, part: Part) -> Option<Gap>
         requires sound { IsSpanOf self.now.rows.machine.now stand.now.branch stand.now.span }
         requires count { part.count ≤ length stand.now.branch.x.choices }

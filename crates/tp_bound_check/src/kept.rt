@@ -66,7 +66,7 @@ fn live_plans(
     keep_all(alloc, machine, ask, schedule)
 }
 
-/// The same, to be looked up.
+/// The plans that are live and the asked copy's front, as a table to look plans up in.
 pub(crate) fn live_part(
     alloc: Global,
     machine: &Machine,

@@ -86,7 +86,8 @@ fn refuse_place<N: Network>(
     }
 }
 
-/// The same, and the board is as it was.
+/// Why no alternative with the next hold at this place ends by the limit, or None if the board has an end by it. The board is as
+/// before.
 fn close_place<N: Network>(
     board: &mut Board<N>,
     scene: ShowScene,

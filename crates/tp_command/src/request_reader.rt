@@ -96,7 +96,7 @@ fn ask<'a>(mode: Mode, arg: &'a str, bounds: usize, budgets: &[&str]) -> Option<
     })
 }
 
-/// The same, where the mode and its ARG are the words that are no options.
+/// Returns what the words ask for. `places` are the words that are no options: a mode and its ARG.
 fn ask_at<'a>(places: &[&'a str], bounds: usize, budgets: &[&str]) -> Option<Request<'a>>
     ensures { option_map seen result ≡ asked_at (shown places.now) bounds (shown budgets.now) }
 {

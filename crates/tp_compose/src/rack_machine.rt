@@ -45,7 +45,7 @@ pub fn compose(alloc: Global, text: &[u8]) -> Result<Vec<u8>, RackFault>
     }
 }
 
-/// The same of a table that was read already. It never answers NotToml.
+/// Composes the machine text of a rack's table. It never returns NotToml.
 fn compose_table(alloc: Global, table: &Table) -> Result<Vec<u8>, RackFault>
     ensures ok { IfOk result (λ bytes. (machine : Machine)
         × IsMachineOfRack (table_view table.now) machine × IsMachineText bytes.items machine) }

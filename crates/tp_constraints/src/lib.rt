@@ -26,8 +26,8 @@ pub fn schedules_are_gaps()
     ensures { GapsLaw }
 {}
 
-/// The same with choices, of which the newest may have its first places alone. With true rooms their ticks are those of
-/// the choice list.
+/// Ticks keep a schedule with choices exactly where they keep the bounds and gaps of both. The newest choice may have its first
+/// places alone. With true rooms the ticks are those of the choice list.
 pub fn suffixes_are_gaps()
     ensures times { SuffixLaw }
     ensures rooms { RoomLaw }

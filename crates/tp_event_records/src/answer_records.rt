@@ -162,7 +162,7 @@ pub fn tell_all_moves(
     tell_moves(alloc, before, after, None, notes)
 }
 
-/// The same, but for the plan of the asked copy, where one is asked.
+/// Notes the plans whose points changed, in the order of copies, but for the plan of the asked copy, if there is one.
 fn tell_moves(
     alloc: Global,
     before: &Times,

@@ -178,7 +178,7 @@ impl Lines {
         self.waiting[place_of(&self.waiting, sheet)].want
     }
 
-    /// The same lines once more. Takes the time of all jobs.
+    /// Returns a copy of all jobs, waiting copies and names. Time is linear in the jobs.
     pub fn copy(&self, alloc: Global) -> Result<Lines, Memory>
         ensures { IfOk result (λ copy. copy ≡ self.now) }
     {

@@ -78,7 +78,7 @@ fn further(line: u64, count: u64) -> u64
     line.saturating_add(count)
 }
 
-/// The same for what is wrong with the first item.
+/// How many lines behind the first line of these items the reason lies, if it is about the first item.
 fn lines_to(items: &[Item], reason: Reason) -> u64
     ensures within { result ≤ heights items.now }
     ensures is { heights items.now < 2 ^ 64 → result ≡ lines_to items.now reason }

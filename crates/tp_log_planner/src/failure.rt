@@ -24,7 +24,7 @@ pub(crate) enum Wrong {
     Illegal { first: i64, second: i64 },
 }
 
-/// The same as a reason.
+/// The reason of a record that is wrong by itself.
 pub(crate) fn reason_of(wrong: Wrong) -> Reason
     ensures { result ≡ reason_of wrong }
 {

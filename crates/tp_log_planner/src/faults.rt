@@ -98,7 +98,7 @@ fn begin_of(machine: &Machine, schedule: &Schedule, hold: Hold, resource: ResId)
     }
 }
 
-/// The same where there may be no hold.
+/// At which tick the action that the hold names holds the resource, if there is a hold and it does.
 fn begin_in(
     machine: &Machine,
     schedule: &Schedule,
@@ -140,7 +140,7 @@ impl Read<'_> {
         }
     }
 
-    /// The same of the later item of those of two plans.
+    /// How many items there are from the later one on of the items that tell the two plans.
     fn left_from_parting(&self, parting: &Parting) -> usize {
         match (parting.stood, parting.stands) {
             (Some(stood), Some(stands)) => self.later_of(stood.sheet, stands.sheet),

@@ -190,7 +190,7 @@ impl Planner for Told {
         }
     }
 
-    /// The same: it looks at the whole schedule each time.
+    /// Answers an ask on the schedule that the last answer left. It compares the whole schedule each time, as `ask` does.
     fn ask_on(
         &mut self,
         machine: &Machine,

@@ -45,7 +45,7 @@ fn due(left: usize) -> Failure
     })
 }
 
-/// The same failure, with so many more items behind.
+/// The failure as one of an item with `count` more items behind it.
 pub(crate) fn ahead_of(failure: Failure, count: usize) -> Failure
     ensures stops { is_stop result ≡ is_stop failure }
     ensures reason { reason_in result ≡ reason_in failure }

@@ -140,7 +140,7 @@ fn take_moves(
     Ok(taken)
 }
 
-/// The same, where no move is left behind them.
+/// Takes the moves of other plans from the items, and fails if another move is left behind them.
 pub(crate) fn take_all_moves(
     alloc: Global,
     machine: &Machine,

@@ -28,7 +28,7 @@ fn failure_of(flaw: TreeFlaw) -> Failure
     }
 }
 
-/// The same failure, of the first of so many items.
+/// The failure as one of the first of `left` items.
 fn from(failure: Failure, left: usize) -> Failure
     ensures stops { is_stop result ≡ is_stop failure }
     ensures from { IfStop (IsFrom left (λ reason. Some reason ≡ reason_in failure)) result }

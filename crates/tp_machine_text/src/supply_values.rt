@@ -29,7 +29,7 @@ fn amount_in(amounts: &Table, key: &str) -> Option<u32>
     }
 }
 
-/// The same of a table that may be absent.
+/// The whole number at the key of a table, if there is a table and a number.
 #[tactic(auto, unfolding(crate::specs::TheMachine::amount_at))]
 fn amount_at(amounts: Option<&Table>, key: &str) -> Option<u32>
     requires { list_all (is_whole (pos 0) (pos most_stock))

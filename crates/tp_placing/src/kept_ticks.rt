@@ -37,7 +37,7 @@ fn is_count_to(firsts: &[PointId], count: usize, point: PointId) -> bool
     point.0 < firsts[count].0
 }
 
-/// The same as `count_to`, where a guess may spare the search: it is the answer, or one more than the answer.
+/// How many of the points are at most this one. The guess is tried first: it spares the search if it is the count or one more.
 pub(crate) fn count_near(firsts: &[PointId], guess: usize, point: PointId) -> usize
     requires { IsNonDecreasingBy (λ f. f.0) firsts.now }
     ensures within { result ≤ length firsts.now }

@@ -76,8 +76,8 @@ pub(crate) fn are_settled<N: Network>(net: &N, plans: &[Plan], firsts: &[PointId
     true
 }
 
-/// Gives a plan of the schedule its least times. Writes nothing where it has them, and then it need not be one of the schedule.
-/// Answers whether it did write.
+/// Gives a plan of the schedule its least times, and returns whether any of its points moved. A plan that has its least times
+/// already need not be one of the schedule.
 fn write_points<N: Network>(net: &N, plan: &Plan, first: PointId, schedule: &mut Schedule) -> bool
     requires formed { IsFormed plan.now }
     requires planned { (plan_of plan.now.sheet schedule.old.plans ≡ Some plan.now)

@@ -92,7 +92,7 @@ pub(crate) fn fall_back(
     Ok(())
 }
 
-/// The same, unless the job of the displaced copy is broken.
+/// Lets the displaced copy fall back, unless its job is broken.
 fn fall_back_unless_broken(
     alloc: Global,
     state: &mut LiveState,

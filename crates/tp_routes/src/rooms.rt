@@ -155,8 +155,8 @@ impl Rooms {
         self.renew(machine, ask);
     }
 
-    /// As `fill`, for whoever knows that the table was filled last for this machine, if it was. Where
-    /// the last ask has the same rooms, there is nothing to find. The actions are indexed once.
+    /// Finds the room of every state for the ask, on the machine for which the table was filled last, if it was. If the last ask
+    /// had the same rooms, nothing is done. The actions are indexed once.
     pub fn renew(&mut self, machine: &Machine, ask: &Ask)
         requires made { IsMadeFor self.old machine.now }
         requires keeps { KeepsRooms self.old machine.now }

@@ -154,7 +154,7 @@ impl Schedule {
         write_plan(&mut self.plans, plan);
     }
 
-    /// The same for the plan at the place, without a look for its copy.
+    /// The first `count` actions of the plan at the place are released, and no others.
     pub fn freeze_at(&mut self, at: u32, count: u32)
         requires planned { IsSomeAnd (slice_get self.old.plans at) (λ p. count ≤ length p.acts) }
         ensures plans { IsSomeAnd (slice_get self.old.plans at)

@@ -466,7 +466,7 @@ fn open_all<N: Network>(
 }
 
 /// Dives from the list that the board carries, or else keeps all its open children, until one of them is an answer or leads to one.
-/// Answers whether the board carries an answer then.
+/// Returns whether the board carries an answer then.
 pub(crate) fn open_list<N: Network>(
     store: &mut Store,
     opening: &mut Opening,

@@ -391,7 +391,7 @@ impl<N: Network> Planner for Engine<N> {
         self.answer(machine, schedule, ask, false)
     }
 
-    /// The same.
+    /// Answers an ask on the schedule as the last answer left it: the board and the rooms of that answer are kept.
     fn ask_on(
         &mut self,
         machine: &Machine,

@@ -75,7 +75,7 @@ pub fn plan<'b, N: Network>(
     find_plan(board, work, machine, ask)
 }
 
-/// As `plan`, on a workspace that was used last on this machine, if it was.
+/// Searches for the earliest plan of the ask on a loaded board. The workspace was used last on this machine, if it was used.
 pub(crate) fn find_plan<'b, N: Network>(
     board: &'b mut Board<N>,
     work: &mut Workspace,
