@@ -1,0 +1,21 @@
+# Completion of printer and chart for bash: source this file.
+_printer() {
+    local word=${COMP_WORDS[COMP_CWORD]} last=${COMP_WORDS[COMP_CWORD-1]}
+    case $last in
+    --budget) return ;;
+    printer | */printer | ./try) COMPREPLY=($(compgen -W 'run check save resume compose farm soak --bounds --budget' -- "$word")); return ;;
+    esac
+    case $word in
+    -*) COMPREPLY=($(compgen -W '--bounds --budget' -- "$word")) ;;
+    *) COMPREPLY=($(compgen -f -- "$word")) ;;
+    esac
+}
+_chart() {
+    local word=${COMP_WORDS[COMP_CWORD]}
+    case $word in
+    -*) COMPREPLY=($(compgen -W '--sheets --at' -- "$word")) ;;
+    *) COMPREPLY=($(compgen -f -X '!*.toml' -- "$word")) ;;
+    esac
+}
+complete -o filenames -F _printer printer ./printer ./try
+complete -o filenames -F _chart chart ./chart
