@@ -1,5 +1,5 @@
 //! Which plans hold a resource at a tick or later.
-ghost use Rattle.std.specs.Prelude.{◌≡◌, ℕ, ◌||◌, ◌≤◌, ◌↔◌, length, filter, nat_lt, count_by};
+ghost use Rattle.std.specs.Prelude.{◌≡◌, ℕ, ◌||◌, ◌≤◌, ◌↔◌, length, filter, nat_lt, count_by, pos, ◌+ℤ◌, int_lt};
 ghost use Rattle.std.specs.List.{list_any};
 ghost use Rattle.tp_machine.specs.ModuleUse.{action_at};
 ghost use Rattle.tp_schedule.specs.declared.parts.SheetId.{SheetId};
@@ -68,7 +68,14 @@ fn does_end_after(machine: &Machine, hold: &HoldRule, start: Tick, end: Tick, no
     ensures { result ≡ ends_after machine.now now start end hold.now }
 {
     let gap = gap_at(machine, hold.resource);
-    i64::from(now) - i64::from(gap) < span(hold, start, end).1
+    is_before(now, span(hold, start, end).1, gap)
+}
+
+/// Whether the tick is before the one that stands a gap behind the end.
+fn is_before(now: Tick, end: i64, gap: u32) -> bool
+    ensures { result ≡ int_lt (pos now) (end +ℤ pos gap) }
+{
+    i64::from(now) - i64::from(gap) < end
 }
 
 fn does_any_end_after(
