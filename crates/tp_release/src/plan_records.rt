@@ -125,8 +125,9 @@ fn tell_all_releases(
     ensures { OnOk result (told.new.items
         ≡ told.old.items ++ flat_map (releases machine.now to) schedule.now.plans) }
 {
+    let last = to + machine.lead;
     for at in 0..schedule.len() {
-        tell_releases(told, machine, schedule.plan_at(at), to + machine.lead)?;
+        tell_releases(told, machine, schedule.plan_at(at), last)?;
     }
     Ok(())
 }
