@@ -1,8 +1,8 @@
 -- Lemmas on lists that are of no subject here.
-use Rattle.std.proofs.Common.{◌≡◌, ℕ, zero, suc, ◌+◌, ◌<◌, ◌≤◌, List, [], ◌∷◌, ◌++◌, length, take, drop, get_or, refl, sym, ap, subst, ◌∙◌, arith, append_assoc, add-one, All, Some, slice_get, Any, inl, inr}
+use Rattle.std.proofs.Common.{◌≡◌, ℕ, zero, suc, ◌+◌, ◌<◌, ◌≤◌, List, [], ◌∷◌, ◌++◌, length, take, drop, get_or, refl, sym, ap, subst, ◌∙◌, arith, append_assoc, add-one, All, Some, slice_get, Any, inl, inr, Bool, true, false, cond, filter}
 use Rattle.std.proofs.lemmas.Bool.{cases_lt}
 use Rattle.std.proofs.lemmas.List.{append-nil}
-use Rattle.std.proofs.lemmas.List.Elements.{All-append, All-cons, All-nil}
+use Rattle.std.proofs.lemmas.List.Elements.{All-append, All-cons, All-nil, filter_more}
 
 -- one element less behind, or one more in front
 pub drop-one : {X : Type 0} (xs : List X) (n : ℕ) (x : X) → slice_get xs n ≡ Some x → drop n xs ≡ x ∷ drop (n + 1) xs
@@ -71,3 +71,24 @@ none-more P xs n y at not_one none k x less is p = elim (cases_lt k n) [
       let one : y ≡ x = cc in
       not_one (subst P (sym one) p))
 ]
+
+-- one element more of which something is known
+pub each-more : {X : Type 0} (P : ℕ → X → Type 0) (xs : List X) (n : ℕ) (y : X) → slice_get xs n ≡ Some y → P n y → ((k : ℕ) (x : X) → k < n → slice_get xs k ≡ Some x → P k x)
+    → (k : ℕ) (x : X) → k < n + 1 → slice_get xs k ≡ Some x → P k x
+each-more P xs n y at one all k x less is = elim (cases_lt k n) [
+  | inl before ↦ all k x before is
+  | inr more ↦ (
+      let same : k ≡ n = omega arith in
+      let e : Some y ≡ Some x = sym at ∙ ap (slice_get xs) (sym same) ∙ is in
+      let it : y ≡ x = cc in
+      subst (λ m. P m x) (sym same) (subst (P n) it one))
+]
+
+-- a loop looks at one element more, which the test lets pass or not
+pub filter-kept : {X : Type 0} (p : X → Bool) (xs : List X) (n : ℕ) (d : X) (out : List X) → n < length xs → p (get_or xs n d) ≡ true → out ≡ filter p (take n xs) → out ++ get_or xs n d ∷ [] ≡ filter p (take (n + 1) xs)
+filter-kept p xs n d out less kept was =
+    ap (λ ys. ys ++ get_or xs n d ∷ []) was ∙ ap (λ b. filter p (take n xs) ++ cond b (get_or xs n d ∷ []) []) (sym kept) ∙ sym (filter_more p xs n d less)
+
+pub filter-passed : {X : Type 0} (p : X → Bool) (xs : List X) (n : ℕ) (d : X) (out : List X) → n < length xs → p (get_or xs n d) ≡ false → out ≡ filter p (take n xs) → out ≡ filter p (take (n + 1) xs)
+filter-passed p xs n d out less passed was =
+    was ∙ sym (append-nil (filter p (take n xs))) ∙ ap (λ b. filter p (take n xs) ++ cond b (get_or xs n d ∷ []) []) (sym passed) ∙ sym (filter_more p xs n d less)

@@ -4,8 +4,9 @@ ghost use Rattle.tp_schedule_check.specs.Timed.{DoLast, LeadsFrom};
 ghost use Rattle.tp_schedule.specs.Plans.{EndsIn, IsFormed, IsTimedPlan, LastsWithin};
 ghost use Rattle.tp_schedule.specs.Routes.{fresh, step_by, walk};
 
+use crate::early::action_of;
 use tp_base::Tick;
-use tp_machine::{ActId, Feeder, LocId, Machine, Sheet, State, step};
+use tp_machine::{ActId, Action, Feeder, LocId, Machine, Sheet, State, step};
 use tp_schedule::{Goal, Kind, Plan, finished, new_sheet};
 
 /// Whether there is at least one action, one point more than actions, and at most as many released ones.
@@ -20,7 +21,7 @@ fn has_form(plan: &Plan) -> bool
 fn step_by(machine: &Machine, want: &Sheet, act: ActId, state: State) -> Option<State>
     ensures { result ≡ step_by machine.now want.now act state }
 {
-    match machine.actions.as_slice().get(usize::from(act.0)) {
+    match action_of(machine, act) {
         Some(action) => step(action, want, state),
         None => None,
     }
@@ -96,15 +97,21 @@ fn is_led(machine: &Machine, plan: &Plan) -> bool
     false
 }
 
+/// Whether the action, from the one tick to the other, lasts within its durations.
+fn is_within(action: &Action, start: Tick, end: Tick) -> bool
+    ensures { IsTrue result
+        ↔ ((start + action.now.least ≤ end) × (end ≤ start + action.now.most)) }
+{
+    let least = u64::from(start) + action.least as u64;
+    let most = u64::from(start) + action.most as u64;
+    least <= u64::from(end) && u64::from(end) <= most
+}
+
 fn does_last(machine: &Machine, act: ActId, start: Tick, end: Tick) -> bool
     ensures { IsTrue result ↔ LastsWithin machine.now act start end }
 {
-    match machine.actions.as_slice().get(usize::from(act.0)) {
-        Some(action) => {
-            let least = u64::from(start) + action.least as u64;
-            let most = u64::from(start) + action.most as u64;
-            least <= u64::from(end) && u64::from(end) <= most
-        }
+    match action_of(machine, act) {
+        Some(action) => is_within(action, start, end),
         None => false,
     }
 }

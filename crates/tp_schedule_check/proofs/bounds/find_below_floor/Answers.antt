@@ -1,9 +1,10 @@
-use Rattle.std.proofs.Common.{◌+◌, All, IsFalse, subst, arith}
+use Rattle.std.proofs.Common.{◌+◌, All, IsFalse, refl, subst, arith}
 use Rattle.std.proofs.lemmas.List.Elements.{All-contains}
 use Rattle.tp_schedule.specs.declared.parts.Plan.{Plan}
+use Rattle.tp_constraints.proofs.Lists.{contains-get}
 use Rattle.tp_schedule_check.specs.Bounds.{StartsAbove}
 use Rattle.tp_schedule_check.specs.Early.{is_exempt}
-use Rattle.tp_schedule_check.proofs.ListFacts.{All-more, take-whole}
+use Rattle.tp_schedule_check.proofs.ListFacts.{All-more, get-is, take-whole}
 use Rattle.tp_schedule_check.proofs.bounds.find_below_floor.Goals as goal
 
 pub plans-preserved : goal.plans-preserved
@@ -19,3 +20,21 @@ returns c = λ p in' free i from to.
     let now = c.from.ensures in
     let lead = c.from-2.ensures in
     omega (arith, above)
+
+pub returns-in-Some : goal.returns-in-Some
+returns-in-Some c =
+    let p = c.plan_at-plan.result.now in
+    record {
+      plan = p;
+      point_of = record {
+        planned = contains-get c.args.schedule.now.plans c.plans.place p c.plan_at-plan.ensures.plan;
+        of = refl;
+        tick = get-is p.points c.in-Some.at c.get.result 0 c.get.ensures;
+      };
+      bound = c.in-Some.ensures.0;
+      low = record {
+        unreleased = c.in-Some.ensures.1.unreleased;
+        start = c.in-Some.ensures.1.start;
+        low = let now = c.from.ensures in let lead = c.from-2.ensures in omega (arith, c.in-Some.ensures.1.low);
+      };
+    }

@@ -1,7 +1,8 @@
-use Rattle.std.proofs.Common.{◌+◌, All, subst, arith}
+use Rattle.std.proofs.Common.{◌+◌, All, refl, subst, arith}
 use Rattle.std.proofs.lemmas.List.Elements.{All-contains}
+use Rattle.tp_constraints.proofs.Lists.{contains-get}
 use Rattle.tp_schedule_check.specs.Bounds.{EndsWithin}
-use Rattle.tp_schedule_check.proofs.ListFacts.{All-more, take-whole}
+use Rattle.tp_schedule_check.proofs.ListFacts.{All-more, get-is, take-whole}
 use Rattle.tp_schedule_check.proofs.bounds.find_past_horizon.Goals as goal
 
 pub plans-preserved : goal.plans-preserved
@@ -16,3 +17,20 @@ returns c = λ p in' i le free.
     let now = c.from.ensures in
     let window = c.from-2.ensures in
     omega (arith, within)
+
+pub returns-in-Some : goal.returns-in-Some
+returns-in-Some c =
+    let p = c.plan_at-plan.result.now in
+    record {
+      plan = p;
+      point_of = record {
+        planned = contains-get c.args.schedule.now.plans c.plans.place p c.plan_at-plan.ensures.plan;
+        of = refl;
+        tick = get-is p.points c.in-Some.at c.get.result 0 c.get.ensures;
+      };
+      past = record {
+        within = c.in-Some.ensures.within;
+        free = c.in-Some.ensures.free;
+        past = let now = c.from.ensures in let window = c.from-2.ensures in omega (arith, c.in-Some.ensures.past);
+      };
+    }
