@@ -11,3 +11,16 @@ pub returns-clause-none : goal.returns-clause-none
 returns-clause-none g c =
     let all : c.edges.at ≡ length c.args.edges.now = omega (arith, c.edges-test.false, c.edges.auto.at-end) in
     subst (All (IsTold (tell c.args.machine.now c.args.board.now.plans c.args.board.now.causes))) (take_all c.edges.at c.args.edges.now all) c.edges.invariant
+
+pub hop_by-requires : goal.hop_by-requires
+hop_by-requires g c = record { stands = c.requires.stands; tellable = c.requires.tellable c.edges.at _ c.edges-test.true }
+
+pub returns-in-None-clause-some : goal.returns-in-None-clause-some
+returns-in-None-clause-some g c =
+    record {
+      edge = _;
+      within = c.edges-test.true;
+      there = get-at c.args.edges.now c.edges.at _ c.edges-test.true;
+      untold = sym c.hop_by.ensures ∙ c.in-None.is;
+      before = c.edges.invariant;
+    }
