@@ -12,6 +12,7 @@ ghost use Rattle.tp_bound_laws.specs.Places.Due.{goal, action, places, stop};
 ghost use Rattle.tp_bound_laws.specs.Trees.{look};
 ghost use Rattle.tp_bound_laws.specs.Trees.Look.{due};
 
+use crate::act_length::action_of;
 use crate::branch::Branch;
 use crate::branch_span::{Span, Stand};
 use crate::dues::{Frame, NodeFault};
@@ -34,8 +35,7 @@ impl<'a> CheckScene<'a> {
             self.now.rows.ask.now self.now.rows.rows.now name.now (action_at
             self.now.rows.machine.now act.0) }
     {
-        let machine = self.rows.machine;
-        match machine.actions.as_slice().get(usize::from(act.0)) {
+        match action_of(self.rows.machine, act) {
             Some(action) => *name == action.name,
             None => false,
         }

@@ -15,6 +15,7 @@ ghost use Rattle.tp_schedule.specs.Spots.{slot_order};
 ghost use Rattle.tp_schedule.specs.Timetables.{IsOrdered};
 ghost use Rattle.tp_bound_laws.specs.Places.{next_rule};
 
+use crate::act_length::action_of;
 use crate::branch::Branch;
 use crate::found::{Ends, Found, Leg, Part, Track};
 use crate::index::{StartKey, places_of, start_key};
@@ -118,11 +119,8 @@ pub(crate) fn holds_of(machine: &Machine, act: ActId) -> &[HoldRule]
     ensures few { length result.now ≤ most_act_holds }
 {
     machine_law(machine);
-    match machine.actions.as_slice().get(usize::from(act.0)) {
-        Some(action) => {
-            let _count = action.holds.len();
-            action.holds.as_slice()
-        }
+    match action_of(machine, act) {
+        Some(action) => action.holds.as_slice(),
         None => &[],
     }
 }
