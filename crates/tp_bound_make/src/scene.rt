@@ -11,7 +11,7 @@ use tp_routes::Rooms;
 use tp_schedule::Ask;
 
 /// Why there is no tree: memory ran out, or some alternative ends by the limit.
-#[derive(Clone, Copy, PartialEq, Eq, Debug)]
+#[derive(Clone, Copy, PartialEq, Eq)]
 pub enum NotShown {
     Memory,
     Early,

@@ -12,7 +12,7 @@ pub struct SheetName {
 /// Why an event is refused: its line is off the grammar, or it names an unknown tray or media, a job name that was taken,
 /// a module that is unknown, out or not out, or a feeder that is unknown, endless or would hold too much; too many copies
 /// would wait; or the clock would go back or too far.
-#[derive(Clone, Copy, PartialEq, Eq, Debug)]
+#[derive(Clone, Copy, PartialEq, Eq)]
 pub enum Cause {
     Syntax,
     Tray(Name),

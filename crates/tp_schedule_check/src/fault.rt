@@ -16,7 +16,7 @@ use tp_machine::Machine;
 use tp_schedule::{Ask, Plan, Schedule, SheetId};
 
 /// Why a schedule is no answer, or has no settled times.
-#[derive(Clone, Copy, PartialEq, Eq, Debug)]
+#[derive(Clone, Copy, PartialEq, Eq)]
 pub enum Fault {
     /// The asked copy has no plan that answers the ask.
     Asked,

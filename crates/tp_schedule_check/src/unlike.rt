@@ -10,7 +10,7 @@ use tp_base::Tick;
 use tp_schedule::{Plan, Schedule, SheetId};
 
 /// Why the plans of two schedules are not the same but for points that may move.
-#[derive(Clone, Copy, PartialEq, Eq, Debug)]
+#[derive(Clone, Copy, PartialEq, Eq)]
 pub enum Unlike {
     /// A plan is more than moved, or only one of them has it.
     Changed,
