@@ -1,12 +1,13 @@
 //! Events as lines.
-ghost use Rattle.std.specs.Prelude.{◌≡◌, ◌++◌, ◌∷◌, OnOk, OnErr, map};
+ghost use Rattle.std.specs.Prelude.{◌≡◌, ◌++◌, ◌∷◌, OnOk, OnErr, map, codes};
 ghost use Rattle.std.specs.List.{flat_map};
+ghost use Rattle.tp_words.specs.Texts.{spaced};
 ghost use Rattle.tp_script.specs.Script.{group_text, event_text};
 
 use crate::event::{Event, Group};
 use crate::group::put_group;
-use tp_base::Memory;
-use tp_words::{put_number, put_word};
+use tp_base::{Memory, Name};
+use tp_words::{put_number, put_number_word, put_word};
 
 fn put_groups(out: &mut Vec<u8>, groups: &[Group]) -> Result<(), Memory>
     ensures { OnOk result (out.new.items ≡ out.old.items
@@ -17,6 +18,32 @@ fn put_groups(out: &mut Vec<u8>, groups: &[Group]) -> Result<(), Memory>
         put_group(out, group)?;
     }
     Ok(())
+}
+
+/// Writes the words of a job, with one space between each two.
+fn put_job(
+    out: &mut Vec<u8>,
+    name: &Name,
+    tray: &Name,
+    media: &Name,
+    groups: &[Group],
+) -> Result<(), Memory>
+    ensures { OnOk result (out.new.items ≡ out.old.items
+        ++ spaced (codes "job" ∷ name.now ∷ tray.now ∷ media.now ∷ map group_text groups.now)) }
+{
+    out.extend_from_slice(b"job")?;
+    put_word(out, name.as_bytes())?;
+    put_word(out, tray.as_bytes())?;
+    put_word(out, media.as_bytes())?;
+    put_groups(out, groups)
+}
+
+/// Writes a verb and the name that follows it.
+fn put_verb(out: &mut Vec<u8>, verb: &[u8], name: &Name) -> Result<(), Memory>
+    ensures { OnOk result (out.new.items ≡ out.old.items ++ verb.now ++ 32 ∷ name.now) }
+{
+    out.extend_from_slice(verb)?;
+    put_word(out, name.as_bytes())
 }
 
 /// Writes the words of the event, with one space between each two.
@@ -30,34 +57,17 @@ fn put_event(out: &mut Vec<u8>, event: &Event) -> Result<(), Memory>
             tray,
             media,
             groups,
-        } => {
-            out.extend_from_slice(b"job")?;
-            put_word(out, name.as_bytes())?;
-            put_word(out, tray.as_bytes())?;
-            put_word(out, media.as_bytes())?;
-            put_groups(out, groups.as_slice())?;
-        }
+        } => put_job(out, name, tray, media, groups.as_slice())?,
         Event::Clock { to } => {
             out.extend_from_slice(b"clock ")?;
             put_number(out, *to)?;
         }
-        Event::Jam { module } => {
-            out.extend_from_slice(b"jam")?;
-            put_word(out, module.as_bytes())?;
-        }
-        Event::Off { module } => {
-            out.extend_from_slice(b"off")?;
-            put_word(out, module.as_bytes())?;
-        }
-        Event::On { module } => {
-            out.extend_from_slice(b"on")?;
-            put_word(out, module.as_bytes())?;
-        }
+        Event::Jam { module } => put_verb(out, b"jam", module)?,
+        Event::Off { module } => put_verb(out, b"off", module)?,
+        Event::On { module } => put_verb(out, b"on", module)?,
         Event::Refill { feeder, count } => {
-            out.extend_from_slice(b"refill")?;
-            put_word(out, feeder.as_bytes())?;
-            out.push(b' ')?;
-            put_number(out, *count)?;
+            put_verb(out, b"refill", feeder)?;
+            put_number_word(out, *count)?;
         }
     }
     Ok(())
