@@ -98,9 +98,9 @@ impl Lines {
         let mut broken = Vec::new(alloc);
         broken.reserve(jobs.len())?;
         Ok(Lines {
-            names: names_of(alloc, jobs)?,
             jobs: Vec::from_slice(alloc, jobs)?,
             waiting: VecDeque::from_vec(Vec::from_slice(alloc, waiting.as_slice())?),
+            names: names_of(alloc, jobs)?,
             kept_jobs: 0,
             kept_waiting: Vec::new(alloc),
             broken,
@@ -188,11 +188,11 @@ impl Lines {
         let mut broken = Vec::from_slice(alloc, self.broken.as_slice())?;
         broken.reserve(self.jobs.len())?;
         Ok(Lines {
-            names: copy_names(&self.names)?,
             jobs: Vec::from_slice(alloc, self.jobs.as_slice())?,
+            kept_waiting: Vec::from_slice(alloc, self.kept_waiting.as_slice())?,
+            names: copy_names(&self.names)?,
             waiting: VecDeque::from_vec(waiting),
             kept_jobs: self.kept_jobs,
-            kept_waiting: Vec::from_slice(alloc, self.kept_waiting.as_slice())?,
             broken,
         })
     }
