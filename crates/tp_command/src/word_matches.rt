@@ -12,21 +12,22 @@ use std::alloc::{AllocError, Global};
 fn command<'a>(alloc: Global) -> Result<Command<'a>, AllocError>
     ensures { IfOk result (λ c. app_of c ≡ printer) }
 {
-    let places = Arg::new(alloc, "words").action(ArgAction::Append);
-    let bounds = Arg::new(alloc, "bounds")
-        .long("bounds")
-        .action(ArgAction::Append)
-        .num_args(0usize)
-        .default_missing_value("set");
-    let budget = Arg::new(alloc, "budget")
-        .long("budget")
-        .action(ArgAction::Append);
     Command::new(alloc, "printer")
         .no_binary_name(true)
         .disable_help_flag(true)
-        .arg(places)?
-        .arg(bounds)?
-        .arg(budget)
+        .arg(Arg::new(alloc, "words").action(ArgAction::Append))?
+        .arg(
+            Arg::new(alloc, "bounds")
+                .long("bounds")
+                .action(ArgAction::Append)
+                .num_args(0usize)
+                .default_missing_value("set"),
+        )?
+        .arg(
+            Arg::new(alloc, "budget")
+                .long("budget")
+                .action(ArgAction::Append),
+        )
 }
 
 pub(crate) fn match_words<'a>(
