@@ -108,6 +108,18 @@ impl Gathered {
         Ok(())
     }
 
+    /// Adds an item of one line, to which no tree has come yet.
+    fn push_item(&mut self, item: Item) -> Result<(), Memory>
+        ensures items { OnOk result (self.new.items.items
+            ≡ closed self.old.items.items self.old.tree ++ item ∷ []) }
+        ensures tree { OnOk result (self.new.tree ≡ record { rows = []; nodes = [] }) }
+        ensures next { self.new.next ≡ self.old.next }
+    {
+        self.close()?;
+        self.items.push(item)?;
+        Ok(())
+    }
+
     /// Adds a line, or answers false where it may not stand here. After `Memory` nothing is known of what was gathered.
     pub(crate) fn add(&mut self, told: LogLine) -> Result<bool, Memory>
         requires gathered { IsGathered self.old }
@@ -122,14 +134,8 @@ impl Gathered {
         }
         self.next = NextLine::behind(&told);
         match told {
-            LogLine::Event(event) => {
-                self.close()?;
-                self.items.push(Item::Event(event))?;
-            }
-            LogLine::Note(rec) => {
-                self.close()?;
-                self.items.push(Item::Note(rec))?;
-            }
+            LogLine::Event(event) => self.push_item(Item::Event(event))?,
+            LogLine::Note(rec) => self.push_item(Item::Note(rec))?,
             LogLine::Room(row) => self.tree.rows.push(row)?,
             LogLine::Node(node) => self.tree.nodes.push(node)?,
         }
