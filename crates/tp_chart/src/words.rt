@@ -28,19 +28,18 @@ pub enum ChartWordsFault {
 fn command<'a>(alloc: Global) -> Result<Command<'a>, AllocError>
     ensures { IfOk result (λ c. app_of c ≡ chart) }
 {
-    let places = Arg::new(alloc, "words").action(ArgAction::Append);
-    let sheets = Arg::new(alloc, "sheets")
-        .long("sheets")
-        .action(ArgAction::Append)
-        .num_args(0usize)
-        .default_missing_value("set");
-    let at = Arg::new(alloc, "at").long("at").action(ArgAction::Append);
     Command::new(alloc, "chart")
         .no_binary_name(true)
         .disable_help_flag(true)
-        .arg(places)?
-        .arg(sheets)?
-        .arg(at)
+        .arg(Arg::new(alloc, "words").action(ArgAction::Append))?
+        .arg(
+            Arg::new(alloc, "sheets")
+                .long("sheets")
+                .action(ArgAction::Append)
+                .num_args(0usize)
+                .default_missing_value("set"),
+        )?
+        .arg(Arg::new(alloc, "at").long("at").action(ArgAction::Append))
 }
 
 fn match_words<'a>(alloc: Global, words: &'a [String]) -> Result<ArgMatches<'a>, ChartWordsFault>
