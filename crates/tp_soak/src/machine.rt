@@ -52,13 +52,13 @@ pub(crate) fn machine_with(alloc: Global, engines: &[MadeEngine]) -> Result<Mach
     requires { AreEngines engines.now }
     ensures { IfOk result (IsMachineWith engines.now) }
 {
-    let locations = names_in(alloc, b"f a b t p")?;
-    let modules = modules(alloc, engines)?;
     let trays = only(alloc, 3)?;
     let purges = only(alloc, 4)?;
     let feeders = feeders(alloc)?;
     let resources = resources(alloc, engines)?;
     let actions = actions(alloc, engines)?;
+    let locations = names_in(alloc, b"f a b t p")?;
+    let modules = modules(alloc, engines)?;
     Ok(Machine {
         lead: 2,
         window: 300,
