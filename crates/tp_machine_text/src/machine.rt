@@ -21,13 +21,13 @@ pub(crate) fn machine_of(alloc: Global, table: &Table) -> Result<Machine, Memory
     requires { KeepsRules (table_view table.now) }
     ensures { IfOk result (IsMachineOf (table_view table.now)) }
 {
-    let locations = locations(alloc, table)?;
-    let modules = modules(alloc, table)?;
     let trays = trays(alloc, table)?;
     let purges = purges(alloc, table)?;
     let feeders = feeders(alloc, table)?;
     let resources = resources(alloc, table)?;
     let actions = actions(alloc, table)?;
+    let locations = locations(alloc, table)?;
+    let modules = modules(alloc, table)?;
     Ok(Machine {
         lead: number_at(table, "lead", 0),
         window: number_at(table, "window", 2000),
