@@ -91,6 +91,13 @@ fn does_use(machine: &Machine, id: ModId, act: ActId) -> bool
     }
 }
 
+/// Whether the action, which takes from `start` to `end`, runs now and uses the module.
+fn does_run_on(machine: &Machine, now: Tick, id: ModId, act: ActId, start: Tick, end: Tick) -> bool
+    ensures { result ≡ ((nat_le start now && nat_lt now end) && does_use machine.now id.0 act) }
+{
+    is_within(now, start, end) && does_use(machine, id, act)
+}
+
 fn is_any_running_on(
     machine: &Machine,
     now: Tick,
@@ -105,10 +112,9 @@ fn is_any_running_on(
     if let [act, later @ ..] = acts
         && let [start, end, ..] = points
     {
-        let runs = is_within(now, *start, *end);
-        let used = does_use(machine, id, *act);
+        let here = does_run_on(machine, now, id, *act, *start, *end);
         let after = is_any_running_on(machine, now, id, later, &points[1..]);
-        (runs && used) || after
+        here || after
     } else {
         false
     }
@@ -120,6 +126,13 @@ pub(crate) fn is_running_on(machine: &Machine, plan: &Plan, now: Tick, id: ModId
 {
     let points = plan.points.as_slice();
     is_any_running_on(machine, now, id, plan.acts.as_slice(), points)
+}
+
+/// Whether the action, which begins at `start`, is yet to start and uses the module.
+fn is_to_use(machine: &Machine, now: Tick, id: ModId, act: ActId, start: Tick) -> bool
+    ensures { result ≡ (not (nat_le start now) && does_use machine.now id.0 act) }
+{
+    now < start && does_use(machine, id, act)
 }
 
 fn is_any_to_run_on(
@@ -136,10 +149,9 @@ fn is_any_to_run_on(
     if let [act, later @ ..] = acts
         && let [start, _, ..] = points
     {
-        let waits = now < *start;
-        let used = does_use(machine, id, *act);
+        let here = is_to_use(machine, now, id, *act, *start);
         let after = is_any_to_run_on(machine, now, id, later, &points[1..]);
-        (waits && used) || after
+        here || after
     } else {
         false
     }
