@@ -100,6 +100,7 @@ impl Lines {
         Ok(Lines {
             jobs: Vec::from_slice(alloc, jobs)?,
             waiting: VecDeque::from_vec(Vec::from_slice(alloc, waiting.as_slice())?),
+            // For the prover: names come last, since each exit after them proves their drop again.
             names: names_of(alloc, jobs)?,
             kept_jobs: 0,
             kept_waiting: Vec::new(alloc),
@@ -190,6 +191,7 @@ impl Lines {
         Ok(Lines {
             jobs: Vec::from_slice(alloc, self.jobs.as_slice())?,
             kept_waiting: Vec::from_slice(alloc, self.kept_waiting.as_slice())?,
+            // For the prover: names come last, since each exit after them proves their drop again.
             names: copy_names(&self.names)?,
             waiting: VecDeque::from_vec(waiting),
             kept_jobs: self.kept_jobs,

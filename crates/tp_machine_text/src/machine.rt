@@ -26,6 +26,7 @@ pub(crate) fn machine_of(alloc: Global, table: &Table) -> Result<Machine, Memory
     let feeders = feeders(alloc, table)?;
     let resources = resources(alloc, table)?;
     let actions = actions(alloc, table)?;
+    // For the prover: names come last, since each exit after them proves their drop again.
     let locations = locations(alloc, table)?;
     let modules = modules(alloc, table)?;
     Ok(Machine {

@@ -57,6 +57,7 @@ pub(crate) fn machine_with(alloc: Global, engines: &[MadeEngine]) -> Result<Mach
     let feeders = feeders(alloc)?;
     let resources = resources(alloc, engines)?;
     let actions = actions(alloc, engines)?;
+    // For the prover: names come last, since each exit after them proves their drop again.
     let locations = names_in(alloc, b"f a b t p")?;
     let modules = modules(alloc, engines)?;
     Ok(Machine {
