@@ -99,7 +99,7 @@ module _ (plans : List Plan) (p : Plan) (firsts : List PointId) (causes : List E
   all = with_plan plans p
 
   abbrev HasLine : Option PointId → Type 0
-  HasLine o = (timelines : List Gap) × IsLineBefore plans p timelines × AreHops all causes (behind_edge o end) (map (hop line) timelines)
+  HasLine o = (lines : List Gap) × IsLineBefore plans p lines × AreHops all causes (behind_edge o end) (map (hop line) lines)
 
   others : take (length plans) all ≡ plans
   others = take-append-le (length plans) plans (p ∷ []) (omega arith) ∙ take_all (length plans) plans (omega arith)
@@ -125,7 +125,7 @@ module _ (plans : List Plan) (p : Plan) (firsts : List PointId) (causes : List E
 -- all its own edges are hops
 pub own-hops : (machine : Machine) (plans : List Plan) (p : Plan) (firsts : List PointId) (causes : List EdgeCause) (first : PointId) (o : Option PointId) → ArePlain causes → AreFirsts 0 (with_plan plans p) firsts
     → first.0 ≡ length (table_of plans) → IsLineEnd (with_plan plans p) firsts (length plans) p o
-    → (timelines : List Gap) × IsLineBefore plans p timelines × AreHops (with_plan plans p) causes (own_edges machine first p o) (acts_hops machine p.sheet 0 p.acts ++ map (hop line) timelines)
+    → (lines : List Gap) × IsLineBefore plans p lines × AreHops (with_plan plans p) causes (own_edges machine first p o) (acts_hops machine p.sheet 0 p.acts ++ map (hop line) lines)
 own-hops machine plans p firsts causes first o plain are is ends =
     let l = line-before plans p firsts causes plain (point_id (first.0 + length p.acts)) (end-behind plans p first.0 is) are o ends in (
       l.0,
@@ -169,11 +169,11 @@ put-gaps machine (x ∷ puts) orders =
     (after-gaps machine r (before_place xs x.place) x.slot) (until-gaps machine r x.slot (slice_get xs x.place)))
     (put-gaps machine puts (with_put x orders))
 
-pub added-gaps : (machine : Machine) (p : Plan) (timelines : List Gap) (puts : List Put) (orders : ℕ → List Slot)
-    → gaps_of (acts_hops machine p.sheet 0 p.acts ++ (map (hop line) timelines ++ put_hops machine puts orders)) ≡ plan_gaps machine p ++ (timelines ++ put_gaps machine puts orders)
-added-gaps machine p timelines puts orders =
-    both-gaps (acts_hops machine p.sheet 0 p.acts) (map (hop line) timelines ++ put_hops machine puts orders) (plan_gaps machine p) (timelines ++ put_gaps machine puts orders) (acts-gaps machine p.sheet 0 p.acts)
-    (both-gaps (map (hop line) timelines) (put_hops machine puts orders) timelines (put_gaps machine puts orders) (kind-gaps line timelines) (put-gaps machine puts orders))
+pub added-gaps : (machine : Machine) (p : Plan) (lines : List Gap) (puts : List Put) (orders : ℕ → List Slot)
+    → gaps_of (acts_hops machine p.sheet 0 p.acts ++ (map (hop line) lines ++ put_hops machine puts orders)) ≡ plan_gaps machine p ++ (lines ++ put_gaps machine puts orders)
+added-gaps machine p lines puts orders =
+    both-gaps (acts_hops machine p.sheet 0 p.acts) (map (hop line) lines ++ put_hops machine puts orders) (plan_gaps machine p) (lines ++ put_gaps machine puts orders) (acts-gaps machine p.sheet 0 p.acts)
+    (both-gaps (map (hop line) lines) (put_hops machine puts orders) lines (put_gaps machine puts orders) (kind-gaps line lines) (put-gaps machine puts orders))
 
 -- ---- the old edges are the same hops
 module _ (machine : Machine) (plans : List Plan) (p : Plan) (ask : Ask) where

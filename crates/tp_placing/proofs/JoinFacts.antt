@@ -143,9 +143,9 @@ module _ (machine : Machine) (now : ℕ) (plans : List Plan) (p : Plan) (can : C
       let rises = point-le machine p timed 0 (length p.acts) (omega arith) (omega arith) in
       omega arith
 
-  timelines : (a b : Plan) → Contains all a → Contains all b → over a.sheet ≡ false → over b.sheet ≡ true → (tray : ℕ) → IsTrue (is_delivered_to a tray) → IsTrue (is_delivered_to b tray)
+  lines : (a b : Plan) → Contains all a → Contains all b → over a.sheet ≡ false → over b.sheet ≡ true → (tray : ℕ) → IsTrue (is_delivered_to a tray) → IsTrue (is_delivered_to b tray)
       → (is_before a.sheet b.sheet ≡ true → end_of_plan a < end_of_plan b) × (is_before b.sheet a.sheet ≡ true → end_of_plan b < end_of_plan a)
-  timelines a b in-a in-b stays-a over-b tray to-a to-b =
+  lines a b in-a in-b stays-a over-b tray to-a to-b =
       elim (Contains-push_cases plans p a in-a) [
         | inl there ↦ (
           λ first. ordered_pair EndsBefore plans a b can.legal.in_order can.legal.rise there in-plans first tray to-a to-b,
@@ -175,7 +175,7 @@ module _ (machine : Machine) (now : ℕ) (plans : List Plan) (p : Plan) (can : C
     orders_live = orders;
     gone_is_old = λ s e. not-fresh s.to e;
     slots_are = slots-are;
-    timelines = timelines;
+    lines = lines;
   }
 
   -- so it is legal
