@@ -16,4 +16,4 @@ module _ {S : Type 0} (tells : S → Event → List ℕ → S → Type 0) (probe
   -- or the first lines, and then the farm stopped for this cause
   abbrev pub IsStopped : FarmState S → Option (List ℕ) → Option (List ℕ) → Stop → Option (List ℕ) → Option (List ℕ) → Type 0
   IsStopped start left taken stop left' taken' = (bytes : List ℕ) × IsReadFrom left bytes left'
-      × ((farm : FarmState S) × Stops (AnswersLine tells probes) NoRefusal line_bytes most_lines (place_of start 0 taken) bytes stop farm taken')
+      × ((farm : FarmState S) × Stops (AnswersLine tells probes) NoRefusal line_bytes most_lines left left' (place_of start 0 taken) bytes stop farm taken')

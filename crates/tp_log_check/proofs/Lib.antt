@@ -14,6 +14,7 @@ pub mod HeightFacts
 pub mod FlawCauses
 pub mod PartingFacts
 pub mod FedLines
+pub mod Beginning
 pub mod FedInTurn
 pub mod StopCauses
 pub mod LogEnds

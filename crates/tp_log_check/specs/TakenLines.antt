@@ -5,6 +5,8 @@ use Rattle.tp_log.specs.declared.log_line.LogLine.{LogLine}
 use Rattle.tp_log_check.specs.CheckerState.{CheckerValue, HasRead}
 use Rattle.tp_log_check.specs.Causes.{HasCause}
 use Rattle.tp_log_check.specs.FlawLines.{LiesAt}
+use Rattle.tp_log_check.specs.Lawful.{IsLawfulLog}
+use Rattle.tp_log_check.specs.declared.flaw.Flaw.{Flaw}
 use Rattle.tp_log_check.specs.declared.flaw.Flaw.TheVariants.{Memory as WantsMemory}
 use Rattle.tp_log_check.specs.declared.rejection.Rejection.{Rejection}
 use Rattle.tp_log_check.specs.declared.rejection.Rejection.TheVariants.{Log, Flaw as Flawed}
@@ -32,10 +34,16 @@ pub record TakesLine (s : LogState) (line : List ℕ) (s' : LogState) : Type 0 w
   pub bytes : s'.bytes ≡ s.bytes + length line
   pub events : s'.checker.events ≡ s.checker.events + events_in line
 
+-- behind these lines this one brings the flaw to light, and no lawful log begins with them and it
+pub record IsFlawed (s : LogState) (line : List ℕ) (flaw : Flaw) (before : List LogLine) : Type 0 where
+  pub lies : LiesAt before line flaw
+  pub caused : HasCause s.checker flaw
+  pub none : (told : LogLine) (more : List LogLine) → line ≡ log_line_text told → ¬ IsLawfulLog s.checker.machine (before ++ told ∷ more)
+
 -- why it is refused
 abbrev pub RefusesLine : LogState → List ℕ → Rejection → Type 0
 RefusesLine s line Log = IsPastSizes (s.bytes + length line) (s.checker.events + events_in line)
-RefusesLine s line (Flawed flaw) = KeepsSizesWith s line × (flaw ≢ WantsMemory) × ((before : List LogLine) → HasRead s.checker before → LiesAt before line flaw × HasCause s.checker flaw)
+RefusesLine s line (Flawed flaw) = KeepsSizesWith s line × (flaw ≢ WantsMemory) × ((before : List LogLine) → HasRead s.checker before → IsFlawed s line flaw before)
 RefusesLine s line _ = ⊥
 
 -- a line without a text is taken, and one with a text is refused for what was found

@@ -21,7 +21,7 @@ module _ (words : List (List ℕ)) (files : Files) (log : List ℕ) (asked : Ask
       not_too_long 4194304 log read to.done to.rest after good.sizes.lines whole to.parts to.whole to.stops.0
   looked (status.TooLong size.Log) is sound left taken taken' checked =
       let ((read, (after, whole, rest_left), to), same) = checked.did in
-      not-too-long log read to.done to.rest after good.sizes whole to.parts to.whole to.stops
+      not-too-long checked.machine (Some log) left log read to.done to.rest after good.sizes whole to.parts to.whole to.stops
   looked (status.Rejected flaw) is sound left taken taken' checked = sound flaw refl
   looked status.Done is sound left taken taken' checked = absurd cc
   looked status.Memory is sound left taken taken' checked = absurd cc

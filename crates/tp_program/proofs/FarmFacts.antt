@@ -50,34 +50,29 @@ module _ (machines : List Machine) (budget : Option ℕ) (bounds : Bool) where
     written = h.written;
   }
 
-  at_end : (cause : Stop) (taken taken' : Option (List ℕ)) (farm : FarmState Standing) (rest : List ℕ) (at : Place (FarmState Standing)) (script : List ℕ)
+  at_end : (cause : Stop) (left left' taken taken' : Option (List ℕ)) (farm : FarmState Standing) (rest : List ℕ) (at : Place (FarmState Standing)) (script : List ℕ)
       → (h : Takes Answers 4096 (place_of start 0 taken) script rest at)
-      → StopsBefore Answers NoRefusal 4096 1000000 cause rest at farm taken' → FarmStopsAt machines budget bounds cause h.done rest h.text taken taken'
-  at_end Memory taken taken' farm rest at script h k = subst (IsWritten taken h.text) (sym k) h.written
-  at_end Refused taken taken' farm rest at script h k = absurd k.0.refused
-  at_end Source taken taken' farm rest at script h k = (k.0, subst (IsWritten taken h.text) (sym k.1) h.written)
-  at_end (Line n) taken taken' farm rest at script h k = (k.0, k.1 ∙ ap (λ m. m + 1) (count h.counted), subst (IsWritten taken h.text) (sym k.2) h.written)
+      → StopsBefore Answers NoRefusal 4096 1000000 left left' cause rest at farm taken' → FarmStopsAt machines budget bounds cause h.done rest h.text left left' taken taken'
+  at_end Memory left left' taken taken' farm rest at script h k = subst (IsWritten taken h.text) (sym k) h.written
+  at_end Refused left left' taken taken' farm rest at script h k = absurd k.0.refused
+  at_end Source left left' taken taken' farm rest at script h k = (k.0, subst (IsWritten taken h.text) (sym k.1) h.written)
+  at_end (Line n) left left' taken taken' farm rest at script h k = (k.0, k.1 ∙ ap (λ m. m + 1) (count h.counted), subst (IsWritten taken h.text) (sym k.2) h.written)
     where
       count : at.count ≡ 0 + length (lines_of h.done) → at.count ≡ length (lines_of h.done)
       count e = omega (arith, e)
-  at_end Lines taken taken' farm rest at script h k = (omega (arith, k.0, h.counted), k.1, subst (IsWritten taken h.text) (sym k.2) h.written)
-  at_end Sink taken taken' farm rest at script h k = (
-    k.line,
-    (
-      k.more,
-      (
-        k.told,
-        k.next,
-        farm-run (lines_of h.done ++ k.line ∷ []) (h.text ++ k.told) farm
-            (answers_then Answers start at.state farm (lines_of h.done) (k.line ∷ []) h.text k.told h.answered (answers_one Answers at.state farm k.line k.told k.answered)),
-        IfSome-from (λ before. IsCutShort k.told taken' (before ++ h.text)) taken (λ before e.
-            IfSome-at (IsCutShort k.told taken') at.taken (before ++ h.text) k.cut (IfSome-at (λ before. at.taken ≡ Some (before ++ h.text)) taken before h.written e)),
-      ),
-    ),
-  )
+  at_end Lines left left' taken taken' farm rest at script h k = (omega (arith, k.0, h.counted), k.1, subst (IsWritten taken h.text) (sym k.2) h.written)
+  at_end Sink left left' taken taken' farm rest at script h k = record {
+    next = k.next;
+    few = omega (arith, k.few, h.counted);
+    told = k.told;
+    run = farm-run (lines_of h.done ++ k.next.line ∷ []) (h.text ++ k.told) farm
+        (answers_then Answers start at.state farm (lines_of h.done) (k.next.line ∷ []) h.text k.told h.answered (answers_one Answers at.state farm k.next.line k.told k.answered));
+    cut = IfSome-from (λ before. IsCutShort k.told taken' (before ++ h.text)) taken (λ before e.
+        IfSome-at (IsCutShort k.told taken') at.taken (before ++ h.text) k.cut (IfSome-at (λ before. at.taken ≡ Some (before ++ h.text)) taken before h.written e));
+  }
 
   pub farm-stopped : FarmStopsLawful machines budget bounds
-  farm-stopped cause script taken taken' farm h = record {
+  farm-stopped cause script left left' taken taken' farm h = record {
     done = h.takes.done;
     rest = h.rest;
     parts = h.takes.bytes_are;
@@ -86,5 +81,5 @@ module _ (machines : List Machine) (budget : Option ℕ) (bounds : Bool) where
     few = omega (arith, h.few, h.takes.counted);
     text = h.takes.text;
     run = farm-run (lines_of h.takes.done) h.takes.text h.at.state h.takes.answered;
-    stops = at_end cause taken taken' farm h.rest h.at script h.takes h.stops;
+    stops = at_end cause left left' taken taken' farm h.rest h.at script h.takes h.stops;
   }

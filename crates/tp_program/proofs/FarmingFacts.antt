@@ -190,4 +190,4 @@ module _ (machines : List Machine) (budget : Option ℕ) (bounds : Bool) (left l
       → FarmStops machines budget bounds left left' taken taken' stop
   farm_stops cause stop is lawful some =
       let (script, read, (last, stops)) = subst (λ s. IsStopped Tells Probes s left taken stop left' taken') same (subst (λ s. IsStopped Tells Probes start left taken s left' taken') is some) in
-      (script, read, lawful stop script taken taken' last stops)
+      (script, read, lawful stop script left left' taken taken' last stops)

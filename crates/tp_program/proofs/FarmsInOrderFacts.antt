@@ -17,6 +17,7 @@ use Rattle.tp_program.specs.declared.status.Status.{Status}
 use Rattle.tp_program.specs.declared.status.Status.TheVariants as status
 use Rattle.tp_program.proofs.FarmingFacts.{All-there}
 use Rattle.tp_program.proofs.InOrderFacts.{has, named_something, not_long}
+use Rattle.tp_stream.proofs.NextLines.{next-some}
 use Rattle.tp_program.proofs.Sizes.{not_too_long, not_too_many}
 
 same_names : (list : List ℕ) (names others : List (List ℕ)) → names_of list ≡ Some names → names_of list ≡ Some others → names ≡ others
@@ -85,7 +86,7 @@ module _ (words : List (List ℕ)) (files : Files) (script : List ℕ) (asked : 
       not_too_long 4096 script read to.done to.rest after good.lines_fit whole to.parts to.whole to.stops.0
   answered (status.TooLong size.Lines) is left taken taken' farmed =
       let (read, (after, whole, rest_left), to) = farmed.has in
-      not_too_many 1000000 script read to.done to.rest after good.few whole to.parts to.whole to.stops.0 to.stops.1
+      not_too_many 1000000 script read to.done to.rest after good.few whole to.parts to.whole to.stops.0 (next-some 4096 (Some script) left to.rest to.stops.1)
   answered status.Done is left taken taken' farmed = absurd cc
   answered status.Memory is left taken taken' farmed = absurd cc
   answered status.Source is left taken taken' farmed = absurd cc

@@ -15,6 +15,7 @@ use Rattle.tp_program.specs.declared.status.Long.TheVariants as size
 use Rattle.tp_program.specs.declared.status.Status.{Status}
 use Rattle.tp_program.specs.declared.status.Status.TheVariants as status
 use Rattle.tp_program.proofs.InOrderFacts.{named_something}
+use Rattle.tp_stream.proofs.NextLines.{next-some}
 use Rattle.tp_program.proofs.Sizes.{not_too_long, not_too_many}
 
 not_longer : (n : ℕ) → n ≤ 134217728 → 134217728 < n → ⊥
@@ -44,7 +45,7 @@ module _ (verdict : OneVerdict) (words : List (List ℕ)) (files : Files) (scrip
       not_too_long 4096 script read to.done to.rest after good.lines_fit whole to.parts to.whole to.stops.0
   answered (status.TooLong size.Lines) is left taken taken' ran =
       let (read, (after, whole, rest_left), to) = ran.did (standing_state ran.machine ran.standing) ran.whole in
-      not_too_many 1000000 script read to.done to.rest after good.few whole to.parts to.whole to.stops.0 to.stops.1
+      not_too_many 1000000 script read to.done to.rest after good.few whole to.parts to.whole to.stops.0 (next-some 4096 (Some script) left to.rest to.stops.1)
   answered status.Done is left taken taken' ran = absurd cc
   answered status.Memory is left taken taken' ran = absurd cc
   answered status.Source is left taken taken' ran = absurd cc

@@ -24,7 +24,7 @@ module _ (machine : Machine) (budget : Option ℕ) (bounds : Bool) (whole live :
 
   pub stops_on : StopsGoOn machine budget bounds → (cause : Stop) → IsStopped Tells (stands_at machine budget bounds live) left taken cause left' taken'
       → StopsOn machine (unwrap_or budget machine.budget) bounds whole left left' taken taken' cause
-  stops_on go cause (bytes, read, (s, stops)) = (bytes, read, go whole live behind cause bytes taken taken' s stops)
+  stops_on go cause (bytes, read, (s, stops)) = (bytes, read, go whole live behind cause bytes left left' taken taken' s stops)
 
 -- where it stood at first
 pub taken_at : (left left' taken taken' : Option (List ℕ)) (from to last : Standing) → from ≡ to → IsTaken Tells from left taken last left' taken' → IsTaken Tells to left taken last left' taken'

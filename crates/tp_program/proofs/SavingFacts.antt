@@ -76,10 +76,11 @@ module _ (machine : Machine) (budget : Option ℕ) (bounds : Bool) (left left' t
       → SavesOn machine nodes bounds left left' taken taken' s
   unfolding has_line ends
   saves_on taken' end status.Done wrote = (let (line, saved, whole) = wrote in ((all.0, all.1, (has_line line saved, written_then taken mid taken' ends.ends.text line ends.written whole)), end))
-  saves_on taken' end status.Memory same = inr (all.0, all.1, answered taken' same)
+  saves_on taken' end status.Memory same = inr (all.0, all.1, end, answered taken' same)
   saves_on taken' end status.Sink wrote = inr (
     all.0,
     all.1,
+    end,
     (
       has_line wrote.0 wrote.1,
       IfSome-from (λ before. IsCutShort wrote.0 taken' (before ++ ends.ends.text)) taken (λ before e.

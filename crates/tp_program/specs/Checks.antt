@@ -1,5 +1,5 @@
 -- How checking a log ends, by its status.
-use Rattle.std.specs.Prelude.{◌≡◌, ◌⊎◌, ℕ, List, [], Option, Some, IfSome}
+use Rattle.std.specs.Prelude.{◌≡◌, ◌⊎◌, ℕ, List, Option}
 use Rattle.tp_outside.specs.Outside.{Files}
 use Rattle.tp_machine.specs.declared.machine.Machine.{Machine}
 use Rattle.tp_machine_text.specs.Texts.{IsMachineText}
@@ -9,6 +9,7 @@ use Rattle.tp_log_check.specs.Ends.{IsAcceptedFrom, StopsFrom}
 use Rattle.tp_log_check.specs.Summary.{counts_text}
 use Rattle.tp_log_check.specs.declared.rejection.Rejection.{Rejection}
 use Rattle.tp_log_check.specs.declared.rejection.Rejection.TheVariants as cause
+use Rattle.tp_stream.specs.Takes.{IsAtEnd}
 use Rattle.tp_program.specs.Runs.{NoMachine}
 use Rattle.tp_program.specs.Texts.{IsShelved}
 use Rattle.tp_program.specs.WrittenText.{WritesOne}
@@ -34,7 +35,7 @@ module _ {K : Type 0} (taken : K → Option (List ℕ)) (machine : Machine) (lef
   pub record Accepts (status : Status) : Type 0 where
     pub counts : Counts
     pub log : IsAcceptedFrom machine left left' counts
-    pub all : IfSome left (λ _. left' ≡ Some [])
+    pub all : IsAtEnd left left'
     pub written : WritesCounts counts (taken sink) (taken sink') status
 
   -- the first lines were those of such a log so far, up to the cause, and nothing was written

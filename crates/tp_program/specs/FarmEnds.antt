@@ -1,5 +1,5 @@
 -- How a farm ends, by its status.
-use Rattle.std.specs.Prelude.{◌≡◌, ◌⊎◌, ℕ, ◌+◌, Bool, List, [], slice_get, take, All, Option, Some, None, IfSome}
+use Rattle.std.specs.Prelude.{◌≡◌, ◌⊎◌, ℕ, ◌+◌, Bool, List, slice_get, take, All, Option, Some, None}
 use Rattle.std.specs.List.{AllZip}
 use Rattle.tp_outside.specs.Outside.{Files, file_at}
 use Rattle.tp_machine.specs.declared.machine.Machine.{Machine}
@@ -7,7 +7,7 @@ use Rattle.tp_machine_text.specs.Texts.{IsBrokenAt, IsMachineText, IsNotToml}
 use Rattle.tp_machine_text.specs.declared.machine_reader.MachineFault.TheVariants.{NotToml, Rule}
 use Rattle.tp_command.specs.Form.{Asked}
 use Rattle.tp_session.specs.Sessions.{Standing, start_of}
-use Rattle.tp_stream.specs.Takes.{IsReadFrom}
+use Rattle.tp_stream.specs.Takes.{IsAtEnd, IsReadFrom}
 use Rattle.tp_stream.specs.declared.stop.Stop.{Stop}
 use Rattle.tp_farm.specs.Farms.{FarmState}
 use Rattle.tp_farm.specs.Lists.{IsBadName, IsFileName, IsNoList, names_of}
@@ -113,11 +113,11 @@ module _ (machines : List Machine) (budget : Option ℕ) (bounds : Bool) (left l
 
   -- its first lines were, up to where the farm stopped
   abbrev pub FarmStops : Stop → Type 0
-  FarmStops cause = (script : List ℕ) × IsReadFrom left script left' × IsFarmAnsweredTo machines budget bounds cause script taken taken'
+  FarmStops cause = (script : List ℕ) × IsReadFrom left script left' × IsFarmAnsweredTo machines budget bounds cause script left left' taken taken'
 
   -- how a farm ends that has begun: with Done the source was read to its end
   abbrev pub FarmEndsOn : Status → Type 0
-  FarmEndsOn status = EndsBy (FarmDone × IfSome left (λ _. left' ≡ Some [])) FarmStops status
+  FarmEndsOn status = EndsBy (FarmDone × IsAtEnd left left') FarmStops status
 
 abbrev pub FarmedBy : Option Files → Asked → Option (List ℕ) → Option (List ℕ) → Option (List ℕ) → Option (List ℕ) → Status → Type 0
 FarmedBy told asked left left' taken taken' status =

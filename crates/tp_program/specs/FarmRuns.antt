@@ -6,7 +6,7 @@ use Rattle.tp_words.specs.Parts.{lacks}
 use Rattle.tp_words.specs.Texts.{lines_of}
 use Rattle.tp_stream.specs.Answers.{AnswersAll}
 use Rattle.tp_stream.specs.Scripts.{NoRefusal, line_bytes, most_lines}
-use Rattle.tp_stream.specs.Takes.{BeginsTooLong, FitsIn, IsWritten, Stops, TakesAll, ends_whole, place_of}
+use Rattle.tp_stream.specs.Takes.{BeginsTooLong, FitsIn, IsWritten, NextLine, Stops, TakesAll, ends_whole, place_of}
 use Rattle.tp_stream.specs.declared.stop.Stop.{Stop}
 use Rattle.tp_stream.specs.declared.stop.Stop.TheVariants.{Memory, Refused, Source, Sink, Line, Lines}
 use Rattle.tp_run_laws.specs.EventRuns.{IsRunOf}
@@ -37,19 +37,26 @@ module _ (machines : List Machine) (budget : Option ℕ) (bounds : Bool) where
     pub run : IsFarmRun (lines_of script) text
     pub written : IsWritten taken text taken'
 
+  -- the next line was read whole, keeps the length limit, and is not one too many. The sink took a first part of the text that answers it
+  pub record IsFarmCutAt (done rest text : List ℕ) (left left' taken taken' : Option (List ℕ)) : Type 0 where
+    pub next : NextLine line_bytes left left' rest
+    pub few : length (lines_of done) < most_lines
+    pub told : List ℕ
+    pub run : IsFarmRun (lines_of done ++ next.line ∷ []) (text ++ told)
+    pub cut : IfSome taken (λ before. IsCutShort told taken' (before ++ text))
+
   -- what is known of what comes next where a farm stops. Only a sink that fails has taken more than the text of the lines
-  -- before: a first part of the next line's
-  abbrev pub FarmStopsAt : Stop → List ℕ → List ℕ → List ℕ → Option (List ℕ) → Option (List ℕ) → Type 0
-  FarmStopsAt Memory done rest text taken taken' = IsWritten taken text taken'
-  FarmStopsAt Refused done rest text taken taken' = ⊥
-  FarmStopsAt Source done rest text taken taken' = (lacks 10 rest ≡ true) × IsWritten taken text taken'
-  FarmStopsAt (Line n) done rest text taken taken' = BeginsTooLong line_bytes rest × (n ≡ length (lines_of done) + 1) × IsWritten taken text taken'
-  FarmStopsAt Lines done rest text taken taken' = (length (lines_of done) ≡ most_lines) × (0 < length rest) × IsWritten taken text taken'
-  FarmStopsAt Sink done rest text taken taken' = (line : List ℕ) × ((more : List ℕ) × ((told : List ℕ)
-      × (rest ≡ line ++ more) × IsFarmRun (lines_of done ++ line ∷ []) (text ++ told) × IfSome taken (λ before. IsCutShort told taken' (before ++ text))))
+  -- before: a first part of the next line's. `Lines` comes only if the line that is one too many keeps the length limit
+  abbrev pub FarmStopsAt : Stop → List ℕ → List ℕ → List ℕ → Option (List ℕ) → Option (List ℕ) → Option (List ℕ) → Option (List ℕ) → Type 0
+  FarmStopsAt Memory done rest text left left' taken taken' = IsWritten taken text taken'
+  FarmStopsAt Refused done rest text left left' taken taken' = ⊥
+  FarmStopsAt Source done rest text left left' taken taken' = (lacks 10 rest ≡ true) × IsWritten taken text taken'
+  FarmStopsAt (Line n) done rest text left left' taken taken' = BeginsTooLong line_bytes rest × (n ≡ length (lines_of done) + 1) × IsWritten taken text taken'
+  FarmStopsAt Lines done rest text left left' taken taken' = (length (lines_of done) ≡ most_lines) × NextLine line_bytes left left' rest × IsWritten taken text taken'
+  FarmStopsAt Sink done rest text left left' taken taken' = IsFarmCutAt done rest text left left' taken taken'
 
   -- its first lines were, each whole and within the limit, and then the farm stopped
-  pub record IsFarmAnsweredTo (stop : Stop) (script : List ℕ) (taken taken' : Option (List ℕ)) : Type 0 where
+  pub record IsFarmAnsweredTo (stop : Stop) (script : List ℕ) (left left' taken taken' : Option (List ℕ)) : Type 0 where
     pub done : List ℕ
     pub rest : List ℕ
     pub parts : script ≡ done ++ rest
@@ -58,7 +65,7 @@ module _ (machines : List Machine) (budget : Option ℕ) (bounds : Bool) where
     pub few : length (lines_of done) ≤ most_lines
     pub text : List ℕ
     pub run : IsFarmRun (lines_of done) text
-    pub stops : FarmStopsAt stop done rest text taken taken'
+    pub stops : FarmStopsAt stop done rest text left left' taken taken'
 
   abbrev pub FarmsLawful : Type 0
   FarmsLawful = (lines : List (List ℕ)) (text : List ℕ) (farm : FarmState Standing)
@@ -70,6 +77,6 @@ module _ (machines : List Machine) (budget : Option ℕ) (bounds : Bool) where
       → IsFarmAnswered script taken taken'
 
   abbrev pub FarmStopsLawful : Type 0
-  FarmStopsLawful = (stop : Stop) (script : List ℕ) (taken taken' : Option (List ℕ)) (farm : FarmState Standing)
-      → Stops (AnswersLine Tells Probes) NoRefusal line_bytes most_lines (place_of (farm_start machines budget bounds) 0 taken) script stop farm taken'
-      → IsFarmAnsweredTo stop script taken taken'
+  FarmStopsLawful = (stop : Stop) (script : List ℕ) (left left' taken taken' : Option (List ℕ)) (farm : FarmState Standing)
+      → Stops (AnswersLine Tells Probes) NoRefusal line_bytes most_lines left left' (place_of (farm_start machines budget bounds) 0 taken) script stop farm taken'
+      → IsFarmAnsweredTo stop script left left' taken taken'

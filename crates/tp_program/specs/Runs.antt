@@ -1,11 +1,11 @@
 -- How a run ends, by its status.
-use Rattle.std.specs.Prelude.{◌≡◌, ◌⊎◌, ℕ, Bool, List, [], Option, Some, IfSome, unwrap_or}
+use Rattle.std.specs.Prelude.{◌≡◌, ◌⊎◌, ℕ, Bool, List, Option, unwrap_or}
 use Rattle.tp_outside.specs.Outside.{Files}
 use Rattle.tp_machine.specs.declared.machine.Machine.{Machine}
 use Rattle.tp_machine_text.specs.Texts.{IsBrokenAt, IsMachineText, IsNotToml}
 use Rattle.tp_machine_text.specs.declared.machine_reader.MachineFault.TheVariants.{NotToml, Rule}
 use Rattle.tp_command.specs.Form.{Asked}
-use Rattle.tp_stream.specs.Takes.{IsReadFrom}
+use Rattle.tp_stream.specs.Takes.{IsAtEnd, IsReadFrom}
 use Rattle.tp_stream.specs.declared.stop.Stop.{Stop}
 use Rattle.tp_stream.specs.declared.stop.Stop.TheVariants as stop
 use Rattle.tp_event_rules.specs.States.{SessionState, empty_state}
@@ -43,11 +43,11 @@ module _ (machine : Machine) (budget : ℕ) (bounds : Bool) (start : SessionStat
 
   -- its first lines were, up to where the run stopped
   abbrev pub StopsOn : Stop → Type 0
-  StopsOn cause = (script : List ℕ) × IsReadFrom left script left' × IsAnsweredTo machine budget bounds start cause script taken taken'
+  StopsOn cause = (script : List ℕ) × IsReadFrom left script left' × IsAnsweredTo machine budget bounds start cause script left left' taken taken'
 
   -- how a run ends that has begun: with Done the source was read to its end
   abbrev pub EndsOn : Status → Type 0
-  EndsOn status = EndsBy (DoneOn × IfSome left (λ _. left' ≡ Some [])) StopsOn status
+  EndsOn status = EndsBy (DoneOn × IsAtEnd left left') StopsOn status
 
 -- the name is that of a machine's text, and the run on it with the budget of the words, or else the machine's, and with
 -- bounds where the words ask for them, did this

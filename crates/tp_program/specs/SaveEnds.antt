@@ -1,5 +1,5 @@
 -- How a run ends whose session is saved, by its status.
-use Rattle.std.specs.Prelude.{◌≡◌, ◌⊎◌, ℕ, Bool, List, [], ◌∷◌, ◌++◌, codes, Option, Some, IfSome}
+use Rattle.std.specs.Prelude.{◌≡◌, ◌⊎◌, ℕ, Bool, List, [], ◌∷◌, ◌++◌, codes, Option, IfSome}
 use Rattle.tp_outside.specs.Outside.{Files}
 use Rattle.tp_outside.specs.PartialTransfer.{IsCutShort}
 use Rattle.tp_machine.specs.declared.machine.Machine.{Machine}
@@ -9,7 +9,7 @@ use Rattle.tp_session.specs.SessionEnds.{EndsSoundly}
 use Rattle.tp_snapshot.specs.Rules.{IsSnapshot}
 use Rattle.tp_snapshot.specs.Texts.{IsWritten as IsWrittenFor}
 use Rattle.tp_session_standing.specs.StandingStates.{standing_of}
-use Rattle.tp_stream.specs.Takes.{IsReadFrom, IsWritten}
+use Rattle.tp_stream.specs.Takes.{IsAtEnd, IsReadFrom, IsWritten}
 use Rattle.tp_stream.specs.declared.stop.Stop.{Stop}
 use Rattle.tp_stream.specs.declared.stop.Stop.TheVariants as stop
 use Rattle.tp_event_rules.specs.States.{SessionState, empty_state}
@@ -46,10 +46,10 @@ module _ (machine : Machine) (budget : ℕ) (bounds : Bool) where
     abbrev pub SaveDone : Type 0
     SaveDone = (script : List ℕ) × IsReadFrom left script left' × ((h : HasSavedLine script) × IsWritten taken (h.ends.text ++ h.line) taken')
 
-    -- all was answered, but the line wasn't made, or not written whole
+    -- the source was read to its end and all was answered, but the line wasn't made, or not written whole
     abbrev pub LineStops : Stop → Type 0
-    LineStops stop.Memory = (script : List ℕ) × IsReadFrom left script left' × IsAnswered machine budget bounds empty_state script taken taken'
-    LineStops stop.Sink = (script : List ℕ) × IsReadFrom left script left'
+    LineStops stop.Memory = (script : List ℕ) × IsReadFrom left script left' × IsAtEnd left left' × IsAnswered machine budget bounds empty_state script taken taken'
+    LineStops stop.Sink = (script : List ℕ) × IsReadFrom left script left' × IsAtEnd left left'
         × ((h : HasSavedLine script) × IfSome taken (λ before. IsCutShort h.line taken' (before ++ h.ends.text)))
     LineStops _ = ⊥
 
@@ -58,7 +58,7 @@ module _ (machine : Machine) (budget : ℕ) (bounds : Bool) where
 
     -- how it ends: with Done the source was read to its end
     abbrev pub SavesOn : Status → Type 0
-    SavesOn status = EndsBy (SaveDone × IfSome left (λ _. left' ≡ Some [])) SaveStops status
+    SavesOn status = EndsBy (SaveDone × IsAtEnd left left') SaveStops status
 
 abbrev pub SavedBy : Option Files → Asked → Option (List ℕ) → Option (List ℕ) → Option (List ℕ) → Option (List ℕ) → Status → Type 0
 SavedBy told asked left left' taken taken' status =

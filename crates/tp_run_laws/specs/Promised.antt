@@ -53,5 +53,5 @@ module _ (machine : Machine) (nodes : ℕ) (bounds : Bool) where
       → KeepsPromises answered.run.log answered.run.last
 
   abbrev pub StopsKeepPromises : Type 0
-  StopsKeepPromises = (stop : Stop) (script : List ℕ) (taken taken' : Option (List ℕ)) (answered : IsAnsweredTo machine nodes bounds empty_state stop script taken taken')
+  StopsKeepPromises = (stop : Stop) (script : List ℕ) (left left' taken taken' : Option (List ℕ)) (answered : IsAnsweredTo machine nodes bounds empty_state stop script left left' taken taken')
       → KeepsPromises answered.run.log answered.run.last

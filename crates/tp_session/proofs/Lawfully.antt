@@ -68,15 +68,15 @@ module _ (machine : Machine) (nodes : ℕ) (bounds : Bool) where
   abbrev seen_place : Place Standing → Place SessionState
   seen_place at = place_of at.state.state at.count at.taken
 
-  seen_stop : (stop : Stop) (rest : List ℕ) (at : Place Standing) (s : Standing) (taken' : Option (List ℕ)) → Has at.state
-      → StopsBefore (AnswersLine Tells) NoRefusal 4096 1000000 stop rest at s taken' → StopsBefore Lawful NoRefusal 4096 1000000 stop rest (seen_place at) s.state taken'
-  seen_stop Memory rest at s taken' has h = h
-  seen_stop Refused rest at s taken' has h = absurd h.0.refused
-  seen_stop Source rest at s taken' has h = h
-  seen_stop (Line n) rest at s taken' has h = h
-  seen_stop Lines rest at s taken' has h = h
-  seen_stop Sink rest at s taken' has h =
-      record { line = h.line; more = h.more; next = h.next; first = h.first; told = h.told; answered = (one_line at.state s h.line h.told has h.answered).answers; cut = h.cut }
+  seen_stop : (stop : Stop) (left left' : Option (List ℕ)) (rest : List ℕ) (at : Place Standing) (s : Standing) (taken' : Option (List ℕ)) → Has at.state
+      → StopsBefore (AnswersLine Tells) NoRefusal 4096 1000000 left left' stop rest at s taken' → StopsBefore Lawful NoRefusal 4096 1000000 left left' stop rest (seen_place at) s.state taken'
+  seen_stop Memory left left' rest at s taken' has h = h
+  seen_stop Refused left left' rest at s taken' has h = absurd h.0.refused
+  seen_stop Source left left' rest at s taken' has h = h
+  seen_stop (Line n) left left' rest at s taken' has h = h
+  seen_stop Lines left left' rest at s taken' has h = h
+  seen_stop Sink left left' rest at s taken' has h =
+      record { next = h.next; few = h.few; told = h.told; answered = (one_line at.state s h.next.line h.told has h.answered).answers; cut = h.cut }
 
   module _ (whole live : SessionState) (behind : IsWhole machine whole live) where
     pub scripts_from : (script : List ℕ) (taken taken' : Option (List ℕ)) (s : Standing) → TakesAll (AnswersLine Tells) 4096 1000000 (place_of (at_state live) 0 taken) script s taken'
@@ -90,12 +90,12 @@ module _ (machine : Machine) (nodes : ℕ) (bounds : Bool) where
           written = h.written;
         })
 
-    pub stops_from : (stop : Stop) (script : List ℕ) (taken taken' : Option (List ℕ)) (s : Standing)
-        → Stops (AnswersLine Tells) NoRefusal 4096 1000000 (place_of (at_state live) 0 taken) script stop s taken' → IsAnsweredTo machine nodes bounds whole stop script taken taken'
-    stops_from stop script taken taken' s h =
+    pub stops_from : (stop : Stop) (script : List ℕ) (left left' taken taken' : Option (List ℕ)) (s : Standing)
+        → Stops (AnswersLine Tells) NoRefusal 4096 1000000 left left' (place_of (at_state live) 0 taken) script stop s taken' → IsAnsweredTo machine nodes bounds whole stop script left left' taken taken'
+    stops_from stop script left left' taken taken' s h =
         let t = h.takes in
         let lines = all_lines (lines_of t.done) t.text (at_state live) h.at.state (starts live) t.answered in
-        stops_lawful machine nodes bounds whole live behind stop script taken taken' s.state (record {
+        stops_lawful machine nodes bounds whole live behind stop script left left' taken taken' s.state (record {
           rest = h.rest;
           at = seen_place h.at;
           takes = record {
@@ -109,15 +109,15 @@ module _ (machine : Machine) (nodes : ℕ) (bounds : Bool) where
             counted = t.counted;
           };
           few = h.few;
-          stops = seen_stop stop h.rest h.at s taken' lines.has h.stops;
+          stops = seen_stop stop left left' h.rest h.at s taken' lines.has h.stops;
         })
 
   pub sessions_lawful : (script : List ℕ) (taken taken' : Option (List ℕ)) (s : Standing) → TakesAll (AnswersLine Tells) 4096 1000000 (place_of (at_state empty_state) 0 taken) script s taken'
       → IsAnswered machine nodes bounds empty_state script taken taken'
   sessions_lawful = scripts_from empty_state empty_state (whole-empty machine nodes bounds)
 
-  pub sessions_stop : (stop : Stop) (script : List ℕ) (taken taken' : Option (List ℕ)) (s : Standing)
-      → Stops (AnswersLine Tells) NoRefusal 4096 1000000 (place_of (at_state empty_state) 0 taken) script stop s taken' → IsAnsweredTo machine nodes bounds empty_state stop script taken taken'
+  pub sessions_stop : (stop : Stop) (script : List ℕ) (left left' taken taken' : Option (List ℕ)) (s : Standing)
+      → Stops (AnswersLine Tells) NoRefusal 4096 1000000 left left' (place_of (at_state empty_state) 0 taken) script stop s taken' → IsAnsweredTo machine nodes bounds empty_state stop script left left' taken taken'
   sessions_stop = stops_from empty_state empty_state (whole-empty machine nodes bounds)
 
   -- events without lines around them

@@ -32,9 +32,9 @@ ScriptsGoOn machine budget bounds = (whole live : SessionState) → IsWhole mach
     → IsAnswered machine (unwrap_or budget machine.budget) bounds whole script taken taken'
 
 abbrev pub StopsGoOn : Machine → Option ℕ → Bool → Type 0
-StopsGoOn machine budget bounds = (whole live : SessionState) → IsWhole machine whole live → (stop : Stop) (script : List ℕ) (taken taken' : Option (List ℕ)) (s : Standing)
-    → Stops (AnswersLine Tells) NoRefusal line_bytes most_lines (place_of (stands_at machine budget bounds live) 0 taken) script stop s taken'
-    → IsAnsweredTo machine (unwrap_or budget machine.budget) bounds whole stop script taken taken'
+StopsGoOn machine budget bounds = (whole live : SessionState) → IsWhole machine whole live → (stop : Stop) (script : List ℕ) (left left' taken taken' : Option (List ℕ)) (s : Standing)
+    → Stops (AnswersLine Tells) NoRefusal line_bytes most_lines left left' (place_of (stands_at machine budget bounds live) 0 taken) script stop s taken'
+    → IsAnsweredTo machine (unwrap_or budget machine.budget) bounds whole stop script left left' taken taken'
 
 -- the empty state is its own live part, and so is the state that a sound standing tells
 abbrev pub EmptyIsWhole : Type 0

@@ -67,9 +67,9 @@ SessionsLawful machine budget bounds = (script : List ℕ) (taken taken' : Optio
 
 -- and so are its first lines, where the session stops
 abbrev pub SessionsStopLawful : Machine → Option ℕ → Bool → Type 0
-SessionsStopLawful machine budget bounds = (stop : Stop) (script : List ℕ) (taken taken' : Option (List ℕ)) (s : Standing)
-    → Stops (AnswersLine Tells) NoRefusal line_bytes most_lines (place_of (start_of machine budget bounds) 0 taken) script stop s taken'
-    → IsAnsweredTo machine (unwrap_or budget machine.budget) bounds empty_state stop script taken taken'
+SessionsStopLawful machine budget bounds = (stop : Stop) (script : List ℕ) (left left' taken taken' : Option (List ℕ)) (s : Standing)
+    → Stops (AnswersLine Tells) NoRefusal line_bytes most_lines left left' (place_of (start_of machine budget bounds) 0 taken) script stop s taken'
+    → IsAnsweredTo machine (unwrap_or budget machine.budget) bounds empty_state stop script left left' taken taken'
 
 -- events that a session answers from its start are answered lawfully
 abbrev pub SessionsTellLawful : Machine → Option ℕ → Bool → Type 0

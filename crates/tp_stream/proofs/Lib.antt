@@ -1,3 +1,4 @@
 pub mod Lines
 pub mod TakesFacts
+pub mod NextLines
 pub mod ReadLines

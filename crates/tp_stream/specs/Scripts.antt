@@ -36,4 +36,4 @@ module _ {S : Type 0} (tells : S → Event → List ℕ → S → Type 0) where
   -- or the first lines, and then the run stopped for this cause
   abbrev pub IsStopped : S → Option (List ℕ) → Option (List ℕ) → Stop → Option (List ℕ) → Option (List ℕ) → Type 0
   IsStopped start left taken stop left' taken' = (bytes : List ℕ) × IsReadFrom left bytes left'
-      × ((s : S) × Stops AnswersLine NoRefusal line_bytes most_lines (place_of start 0 taken) bytes stop s taken')
+      × ((s : S) × Stops AnswersLine NoRefusal line_bytes most_lines left left' (place_of start 0 taken) bytes stop s taken')

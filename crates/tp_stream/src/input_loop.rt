@@ -1,9 +1,9 @@
 //! The whole input, line by line.
 
-ghost use Rattle.std.specs.Prelude.{◌≡◌, ◌≢◌, ◌+◌, ◌<◌, ◌≤◌, ◌^◌, ℕ, List, [], length, true, Some, Err, OnOk, IfErr, IfSome, IsErrOf};
+ghost use Rattle.std.specs.Prelude.{◌≡◌, ◌≢◌, ◌+◌, ◌<◌, ◌≤◌, ◌^◌, ℕ, List, [], length, true, Option, Err, OnOk, IfErr, IsErrOf};
 ghost use Rattle.tp_outside.specs.Outside.{Rises, IsCounted};
 ghost use Rattle.tp_words.specs.Parts.{lacks};
-ghost use Rattle.tp_stream.specs.Takes.{EndsIn, IsReadFrom, Stops, StopsBefore, TakesAll, place_of};
+ghost use Rattle.tp_stream.specs.Takes.{EndsIn, IsAtEnd, IsReadFrom, Stops, StopsBefore, TakesAll, place_of};
 ghost use Rattle.tp_stream.specs.declared.stop.Stop.{Stop};
 
 use crate::limits::Limits;
@@ -33,8 +33,8 @@ fn end_input<T: LineTaker, K: Sink>(
     ensures all { OnOk result (EndsIn T.answers limits.bytes limits.lines
         (place_of (T.state taker.old) count (K.taken sink.old)) line.now (T.state taker.new)
         (K.taken sink.new)) }
-    ensures stops { IfErr result (λ stop.
-        StopsBefore T.answers T.refuses limits.bytes limits.lines stop line.now
+    ensures stops { (left left' : Option (List ℕ)) → IsAtEnd left left' → IfErr result (λ stop.
+        StopsBefore T.answers T.refuses limits.bytes limits.lines left left' stop line.now
         (place_of (T.state taker.old) count (K.taken sink.old)) (T.state taker.new)
         (K.taken sink.new)) }
     ensures clear { OnOk result (T.text taker.new ≡ []) }
@@ -73,13 +73,13 @@ pub fn stream<T: LineTaker, S: Source, K: Sink>(
         × TakesAll T.answers limits.bytes limits.lines
         (place_of (T.state taker.old) 0 (K.taken sink.old)) bytes (T.state taker.new)
         (K.taken sink.new)) }
-    ensures end { OnOk result (IfSome (S.left source.old) (λ _. S.left source.new ≡ Some [])) }
+    ensures end { OnOk result (IsAtEnd (S.left source.old) (S.left source.new)) }
     // Else the first lines are answered, up to the cause.
     ensures stops { IfErr result (λ stop.
         (bytes : List ℕ) × IsReadFrom (S.left source.old) bytes (S.left source.new)
-        × Stops T.answers T.refuses limits.bytes limits.lines
-        (place_of (T.state taker.old) 0 (K.taken sink.old)) bytes stop (T.state taker.new)
-        (K.taken sink.new)) }
+        × Stops T.answers T.refuses limits.bytes limits.lines (S.left source.old)
+        (S.left source.new) (place_of (T.state taker.old) 0 (K.taken sink.old)) bytes stop
+        (T.state taker.new) (K.taken sink.new)) }
     ensures source { IsErrOf result Stop.Source → Rises (S.faults source.old)
         (S.faults source.new) }
     ensures sink { IsErrOf result Stop.Sink → Rises (K.faults sink.old) (K.faults sink.new) }

@@ -1,6 +1,6 @@
 //! A piece of the input, line by line.
 
-ghost use Rattle.std.specs.Prelude.{◌≡◌, ◌≢◌, ◌+◌, ◌<◌, ◌≤◌, ◌^◌, ◌++◌, ℕ, List, [], ◌∷◌, length, true, OnOk, IfErr, IsErrOf, Err};
+ghost use Rattle.std.specs.Prelude.{◌≡◌, ◌≢◌, ◌+◌, ◌<◌, ◌≤◌, ◌^◌, ◌++◌, ℕ, List, [], ◌∷◌, length, Option, true, OnOk, IfErr, IsErrOf, Err};
 ghost use Rattle.tp_outside.specs.Outside.{Rises, IsCounted};
 ghost use Rattle.tp_words.specs.Parts.{lacks};
 ghost use Rattle.tp_stream.specs.Takes.{IsAnswered, IsNotAnswered, IsOpenStop, Stops, StopsBefore, Takes, place_of};
@@ -73,8 +73,8 @@ fn end_line<T: LineTaker, K: Sink>(
     ensures few { OnOk result (count.new ≤ limits.lines) }
     ensures clear { OnOk result (T.text taker.new ≡ []) }
     ensures room { OnOk result (limits.lines ≤ count.new + T.room taker.new) }
-    ensures stops { (more : List ℕ) → IfErr result (λ stop.
-        StopsBefore T.answers T.refuses limits.bytes limits.lines stop
+    ensures stops { (left left' : Option (List ℕ)) (more : List ℕ) → IfErr result (λ stop.
+        StopsBefore T.answers T.refuses limits.bytes limits.lines left left' stop
         (line.old.items ++ body.now ++ 10 ∷ more) (place_of (T.state taker.old) count.old
         (K.taken sink.old)) (T.state taker.new) (K.taken sink.new)) }
     ensures source { result ≢ Err Stop.Source }
@@ -141,8 +141,8 @@ pub(crate) fn take_chunk<T: LineTaker, K: Sink>(
     ensures few { OnOk result (count.new ≤ limits.lines) }
     ensures clear { OnOk result (T.text taker.new ≡ []) }
     ensures room { OnOk result (limits.lines ≤ count.new + T.room taker.new) }
-    ensures stops { IfErr result (λ stop.
-        Stops T.answers T.refuses limits.bytes limits.lines
+    ensures stops { (left left' : Option (List ℕ)) → IfErr result (λ stop.
+        Stops T.answers T.refuses limits.bytes limits.lines left left'
         (place_of (T.state taker.old) count.old (K.taken sink.old)) (line.old.items ++ chunk.now)
         stop (T.state taker.new) (K.taken sink.new)) }
     ensures source { result ≢ Err Stop.Source }

@@ -1,8 +1,9 @@
 //! A script answered line by line.
 
-ghost use Rattle.std.specs.Prelude.{◌≡◌, ◌+◌, ◌<◌, ◌≤◌, ◌^◌, ◌-◌, ℕ, [], length, Some, OnOk, IfOk, IfErr, IfSome, IsErrOf};
+ghost use Rattle.std.specs.Prelude.{◌≡◌, ◌+◌, ◌<◌, ◌≤◌, ◌^◌, ◌-◌, ℕ, [], length, OnOk, IfOk, IfErr, IsErrOf};
 ghost use Rattle.tp_outside.specs.Outside.{Rises, IsCounted};
 ghost use Rattle.tp_stream.specs.Scripts.{AnswersLine, IsStopped, IsTaken, ReadsEvent};
+ghost use Rattle.tp_stream.specs.Takes.{IsAtEnd};
 ghost use Rattle.tp_stream.specs.declared.stop.Stop.{Stop};
 ghost use Rattle.tp_stream.specs.Tellers.{most_events};
 
@@ -89,7 +90,7 @@ pub fn answer_script<T: Teller + Drop, S: Source, K: Sink>(
     // The script is answered whole, and the source was read to its end.
     ensures all { IfOk result (λ t. IsTaken T.tells (T.state teller) (S.left source.old)
         (K.taken sink.old) (T.state t) (S.left source.new) (K.taken sink.new)) }
-    ensures end { OnOk result (IfSome (S.left source.old) (λ _. S.left source.new ≡ Some [])) }
+    ensures end { OnOk result (IsAtEnd (S.left source.old) (S.left source.new)) }
     // Else its first lines are answered, up to the cause.
     ensures stops { IfErr result (λ stop. IsStopped T.tells (T.state teller) (S.left source.old)
         (K.taken sink.old) stop (S.left source.new) (K.taken sink.new)) }

@@ -16,7 +16,7 @@ pub returns-in-Ok-feed_all-clause-stops : goal.returns-in-Ok-feed_all-clause-sto
 returns-in-Ok-feed_all-clause-stops g c =
     let (text, read, sizes, is, taken) = c.in-Ok-feed_all.ensures.taken in
     IfErr-weaker c.end.result _ _
-    (λ cause ends. refused-end c.args.machine c.feed_all.new.checked.checker text (is ∙ c.in-Ok.ensures.machine) taken sizes _ _ cause read ends)
+    (λ cause ends. refused-end c.args.machine c.feed_all.new.checked.checker text (is ∙ c.in-Ok.ensures.machine) taken sizes _ _ cause read c.in-Ok-feed_all.ensures.end ends)
     c.end.ensures.ends
 
 pub returns-in-Err-clause-source : goal.returns-in-Err-clause-source

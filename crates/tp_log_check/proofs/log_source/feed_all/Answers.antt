@@ -22,27 +22,27 @@ returns-in-Ok-clause-taken g c =
 pub returns-in-Err-Source-clause-stops : goal.returns-in-Err-Source-clause-stops
 returns-in-Err-Source-clause-stops g c =
     let (text, read, stops) = rw c.in-Err-Source.field-0-is at c.in-Err-Source.ensures.stops in
-    (text, read, stops-so (state c.args.checked.now) (state c.stream.new.taker) text stop.Source (record { fresh = c.requires.fresh; bytes = c.requires.none }) stops)
+    (text, read, stops-so (g.S.Source.left c.args.source.now) (g.S.Source.left c.stream.new.source) (state c.args.checked.now) (state c.stream.new.taker) text stop.Source (record { fresh = c.requires.fresh; bytes = c.requires.none }) stops)
 
 pub returns-in-Err-Line-clause-stops : goal.returns-in-Err-Line-clause-stops
 returns-in-Err-Line-clause-stops g c =
     let (text, read, stops) = rw c.in-Err-Line.field-0-is at c.in-Err-Line.ensures.stops in
-    (text, read, stops-so (state c.args.checked.now) (state c.stream.new.taker) text (stop.Line c.in-Err-Line.n) (record { fresh = c.requires.fresh; bytes = c.requires.none }) stops)
+    (text, read, stops-so (g.S.Source.left c.args.source.now) (g.S.Source.left c.stream.new.source) (state c.args.checked.now) (state c.stream.new.taker) text (stop.Line c.in-Err-Line.n) (record { fresh = c.requires.fresh; bytes = c.requires.none }) stops)
 
 pub returns-in-Some-clause-stops : goal.returns-in-Some-clause-stops
 returns-in-Some-clause-stops g c =
     let (text, read, stops) = rw c.in-Err-Sink.field-0-is at c.in-Err-Sink.ensures.stops in
-    let (cause, found, why) = stops-so (state c.args.checked.now) (state c.stream.new.taker) text stop.Sink (record { fresh = c.requires.fresh; bytes = c.requires.none }) stops in
+    let (cause, found, why) = stops-so (g.S.Source.left c.args.source.now) (g.S.Source.left c.stream.new.source) (state c.args.checked.now) (state c.stream.new.taker) text stop.Sink (record { fresh = c.requires.fresh; bytes = c.requires.none }) stops in
     let is = c.in-Some.is in
     let same : cause ≡ c.in-Some.cause = cc in
-    stops-from c.args.checked.now.checker.machine _ _ c.in-Some.cause text read (subst (StopsFor c.args.checked.now.checker.machine text) same why)
+    stops-from c.args.checked.now.checker.machine _ _ c.in-Some.cause text read (subst (StopsFor c.args.checked.now.checker.machine _ _ text) same why)
 
 pub unreachable-requires-in-Err-Refused : goal.unreachable-requires-in-Err-Refused
 unreachable-requires-in-Err-Refused g c =
     let (text, read, stops) = rw c.in-Err-Refused.field-0-is at c.in-Err-Refused.ensures.stops in
-    stops-so (state c.args.checked.now) (state c.stream.new.taker) text stop.Refused (record { fresh = c.requires.fresh; bytes = c.requires.none }) stops
+    stops-so (g.S.Source.left c.args.source.now) (g.S.Source.left c.stream.new.source) (state c.args.checked.now) (state c.stream.new.taker) text stop.Refused (record { fresh = c.requires.fresh; bytes = c.requires.none }) stops
 
 pub unreachable-requires-in-Err-Lines : goal.unreachable-requires-in-Err-Lines
 unreachable-requires-in-Err-Lines g c =
     let (text, read, stops) = rw c.in-Err-Lines.field-0-is at c.in-Err-Lines.ensures.stops in
-    stops-so (state c.args.checked.now) (state c.stream.new.taker) text stop.Lines (record { fresh = c.requires.fresh; bytes = c.requires.none }) stops
+    stops-so (g.S.Source.left c.args.source.now) (g.S.Source.left c.stream.new.source) (state c.args.checked.now) (state c.stream.new.taker) text stop.Lines (record { fresh = c.requires.fresh; bytes = c.requires.none }) stops

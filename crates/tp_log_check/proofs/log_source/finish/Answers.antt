@@ -6,4 +6,4 @@ use Rattle.tp_log_check.proofs.log_source.finish.Goals as goal
 pub returns-in-Err : goal.returns-in-Err
 returns-in-Err c =
     let known : c.in-Err.flaw ≢ WantsMemory = search rules in
-    record { accepted = tt; ends = (known, λ told h. (c.in-Err.ensures.lies known told h, c.in-Err.ensures.why known told h)) }
+    record { accepted = tt; ends = (known, λ told h. record { lies = c.in-Err.ensures.lies known told h; caused = c.in-Err.ensures.why known told h; none = c.in-Err.ensures.refused known told h }) }

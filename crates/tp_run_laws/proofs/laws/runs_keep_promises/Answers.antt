@@ -8,4 +8,4 @@ pub returns-clause-answered : goal.returns-clause-answered
 returns-clause-answered c machine nodes bounds script taken taken' answered = first-runs-keep machine nodes bounds _ answered.run.log answered.run.last answered.run.run
 
 pub returns-clause-stopped : goal.returns-clause-stopped
-returns-clause-stopped c machine nodes bounds stop script taken taken' answered = first-runs-keep machine nodes bounds _ answered.run.log answered.run.last answered.run.run
+returns-clause-stopped c machine nodes bounds stop script left left' taken taken' answered = first-runs-keep machine nodes bounds _ answered.run.log answered.run.last answered.run.run

@@ -1,7 +1,7 @@
 use Rattle.std.proofs.Common.{rules, [], ◌++◌, take, refl}
 use Rattle.tp_outside.proofs.Parts.{IsCounted-more}
 use Rattle.tp_stream.specs.Takes.{place_of}
-use Rattle.tp_stream.proofs.TakesFacts.{fewer_bytes, goes_on, read_end, read_more, read_none, some_taken, stops_then, takes_all, takes_more, takes_none, takes_then}
+use Rattle.tp_stream.proofs.TakesFacts.{at_end, fewer_bytes, goes_on, read_end, read_more, read_none, some_taken, stops_then, takes_all, takes_more, takes_none, takes_then}
 use Rattle.tp_stream.proofs.input_loop.stream.Goals as goal
 
 pub chunks-init : goal.chunks-init
@@ -49,7 +49,8 @@ returns-in-Err-end_input-clause-stops g c =
         at = place_of (g.T.LineTaker.state c.chunks.taker) c.chunks.count (g.K.Sink.taken c.chunks.sink);
         takes = takes;
         few = c.chunks.invariant.few;
-        stops = rw c.deref.ensures.value at c.in-Err-end_input.ensures.stops;
+        stops = rw c.deref.ensures.value at c.in-Err-end_input.ensures.stops _ _
+            (at_end _ _ _ bytes c.read.new.into c.in-Ok.n (search rules) (search rules) read c.in-Ok.ensures.given);
       },
     )
 
@@ -81,5 +82,5 @@ returns-in-Err-take_chunk-clause-stops g c =
     let (bytes, read, takes) = c.chunks.invariant.so_far in (
       bytes ++ take c.in-Ok.n c.read.new.into,
       read_more _ _ _ bytes c.read.new.into c.in-Ok.n read c.in-Ok.ensures.given,
-      stops_then g.T.LineTaker.answers g.T.LineTaker.refuses c.args.limits.bytes c.args.limits.lines _ _ bytes c.chunks.line.items _ _ _ _ takes c.in-Err-take_chunk.ensures.stops,
+      stops_then g.T.LineTaker.answers g.T.LineTaker.refuses c.args.limits.bytes c.args.limits.lines _ _ _ _ bytes c.chunks.line.items _ _ _ _ takes (c.in-Err-take_chunk.ensures.stops _ _),
     )

@@ -9,16 +9,16 @@ pub end_line-requires-clause-body : goal.end_line-requires-clause-body
 end_line-requires-clause-body g c = (cut_takes 10 c.pieces.rest.now c.in-Some.body.now c.in-Some.more.now (sym c.in-Some.ensures)).1
 
 pub returns-in-Err-clause-stops : goal.returns-in-Err-clause-stops
-returns-in-Err-clause-stops g c =
+returns-in-Err-clause-stops g c = λ left left'.
     let whole = (cut_takes 10 c.pieces.rest.now c.in-Some.body.now c.in-Some.more.now (sym c.in-Some.ensures)).0 in
     record {
       rest = c.pieces.line.items ++ c.pieces.rest.now;
       at = place_of (g.T.LineTaker.state c.pieces.taker) c.pieces.count (g.K.Sink.taken c.pieces.sink);
       takes = c.pieces.invariant.takes;
       few = c.pieces.invariant.few;
-      stops = subst (λ bytes. StopsBefore g.T.LineTaker.answers g.T.LineTaker.refuses c.args.limits.bytes c.args.limits.lines c.in-Err.stop bytes
+      stops = subst (λ bytes. StopsBefore g.T.LineTaker.answers g.T.LineTaker.refuses c.args.limits.bytes c.args.limits.lines left left' c.in-Err.stop bytes
           (place_of (g.T.LineTaker.state c.pieces.taker) c.pieces.count (g.K.Sink.taken c.pieces.sink)) (g.T.LineTaker.state c.end_line.new.taker) (g.K.Sink.taken c.end_line.new.sink))
-          (append_assoc c.pieces.line.items c.in-Some.body.now _ ∙ ap (λ t. c.pieces.line.items ++ t) (sym whole)) (c.in-Err.ensures.stops c.in-Some.more.now);
+          (append_assoc c.pieces.line.items c.in-Some.body.now _ ∙ ap (λ t. c.pieces.line.items ++ t) (sym whole)) (c.in-Err.ensures.stops left left' c.in-Some.more.now);
     }
 
 pub pieces-preserved : goal.pieces-preserved
@@ -39,10 +39,10 @@ pub add_open-requires-clause-piece : goal.add_open-requires-clause-piece
 add_open-requires-clause-piece g c = no_cut c.pieces.rest.now (sym c.in-None.ensures)
 
 pub returns-in-Err-add_open-clause-stops : goal.returns-in-Err-add_open-clause-stops
-returns-in-Err-add_open-clause-stops g c = record {
+returns-in-Err-add_open-clause-stops g c = λ left left'. record {
   rest = c.pieces.line.items ++ c.pieces.rest.now;
   at = place_of (g.T.LineTaker.state c.pieces.taker) c.pieces.count (g.K.Sink.taken c.pieces.sink);
   takes = c.pieces.invariant.takes;
   few = c.pieces.invariant.few;
-  stops = open_stops g.T.LineTaker.answers g.T.LineTaker.refuses c.args.limits.bytes c.args.limits.lines _ _ _ _ c.in-Err-add_open.stop c.in-Err-add_open.ensures.stops refl;
+  stops = open_stops g.T.LineTaker.answers g.T.LineTaker.refuses c.args.limits.bytes c.args.limits.lines left left' _ _ _ _ c.in-Err-add_open.stop c.in-Err-add_open.ensures.stops refl;
 }
