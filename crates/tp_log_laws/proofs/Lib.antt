@@ -11,3 +11,4 @@ pub mod OneAnswer
 pub mod AlongAsks
 pub mod AlongLoop
 pub mod AlongTurn
+mod OnTrust

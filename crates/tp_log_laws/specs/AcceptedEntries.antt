@@ -14,6 +14,7 @@ use Rattle.tp_event_rules.specs.Planners.{right_steps}
 use Rattle.tp_event_rules.specs.States.{SessionState, empty_state}
 use Rattle.tp_event_rules.specs.Turns.{Turn}
 use Rattle.tp_event_turn.specs.Events.{LiveTurn}
+use Rattle.tp_run_laws.specs.Runs.{spent_by, tree_claims}
 use Rattle.tp_run_laws.specs.Wholes.{IsWhole}
 
 -- what a tree claims, on the live part of the schedule at the ask's moment: that no alternative ends before the tick, or that
@@ -62,6 +63,11 @@ module _ (machine : Machine) where
   AcceptedTurnsComeBack = (event : Event) (whole s whole' : SessionState) (trees : List BoundTree) (records : List Record) (rest : List BoundTree)
       → IsWhole machine whole s → AcceptedTurn machine event whole trees records whole' rest
       → LiveTurn (right_answers bound_claims true spent_on_trust machine) machine event s trees records (live_part machine whole') rest
+
+  -- a lawful run with bounds is a log that is lawful with bounds, also where the causes of its budgets are taken on trust
+  abbrev pub BoundRunsAccepted : Type 0
+  BoundRunsAccepted = (nodes : ℕ) (events : List Event) (log : List (Entry BoundTree)) → IsLawful tree_claims true (spent_by nodes) machine events log
+      → IsLawful bound_claims true spent_on_trust machine events log
 
   -- from the empty state they are a lawful log with bounds, but for the causes of its budgets
   abbrev pub AcceptedLogsLawful : Type 0

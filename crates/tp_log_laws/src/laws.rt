@@ -1,7 +1,7 @@
 //! What holds of logs that are accepted. The calls do nothing: their contracts are the laws.
 
 ghost use Rattle.tp_machine.specs.declared.machine.Machine.{Machine};
-ghost use Rattle.tp_log_laws.specs.AcceptedEntries.{AcceptedLogsLawful, AcceptedTurnsComeBack, OneMoreAccepted, TurnsAccepted};
+ghost use Rattle.tp_log_laws.specs.AcceptedEntries.{AcceptedLogsLawful, AcceptedTurnsComeBack, BoundRunsAccepted, OneMoreAccepted, TurnsAccepted};
 ghost use Rattle.tp_log_laws.specs.EntryTurns.{LawfulTurnsAccepted};
 
 use tp_schedule::Planner;
@@ -22,6 +22,11 @@ pub fn accepted_turns_come_back()
 pub fn accepted_logs_are_lawful()
     ensures lawful { (machine : Machine) → AcceptedLogsLawful machine }
     ensures more { (machine : Machine) → OneMoreAccepted machine }
+{}
+
+/// A lawful run with bounds is a log that is lawful with bounds, its budgets on trust.
+pub fn bound_runs_are_accepted()
+    ensures { (machine : Machine) → BoundRunsAccepted machine }
 {}
 
 /// Where the event of an entry has a turn of right answers on a whole state, its budgets on trust, the planner that is told the entry's records

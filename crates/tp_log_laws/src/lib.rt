@@ -4,6 +4,6 @@
 mod laws;
 
 pub use laws::{
-    accepted_logs_are_lawful, accepted_turns_come_back, lawful_turns_are_accepted,
-    told_turns_are_whole,
+    accepted_logs_are_lawful, accepted_turns_come_back, bound_runs_are_accepted,
+    lawful_turns_are_accepted, told_turns_are_whole,
 };

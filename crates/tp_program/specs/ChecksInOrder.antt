@@ -1,12 +1,15 @@
 -- Checks in which everything but the log itself is in order, and what that excludes.
-use Rattle.std.specs.Prelude.{◌≡◌, ◌≢◌, ℕ, List, Option, Some, None, IsTrue}
+use Rattle.std.specs.Prelude.{◌≡◌, ◌≢◌, ℕ, true, List, Option, Some, None, IsTrue}
 use Rattle.tp_outside.specs.Outside.{Files}
 use Rattle.tp_machine.specs.declared.machine.Machine.{Machine}
 use Rattle.tp_machine_text.specs.Texts.{IsMachineText}
 use Rattle.tp_command.specs.Form.{Asked, form}
 use Rattle.tp_command.specs.declared.request.Mode.TheVariants.{Check}
+use Rattle.tp_log_check.specs.Ends.{IsLawfulText}
 use Rattle.tp_log_check.specs.Sizes.{KeepsSizes}
 use Rattle.tp_log_check.specs.declared.flaw.Flaw.{Flaw}
+use Rattle.tp_run_laws.specs.Ends.{IsAnswered}
+use Rattle.tp_event_rules.specs.States.{empty_state}
 use Rattle.tp_program.specs.Checks.{CheckedBy}
 use Rattle.tp_program.specs.InOrder.{IsThere, is_refusal}
 use Rattle.tp_program.specs.Runs.{NoMachine}
@@ -33,3 +36,20 @@ pub record CheckIsNotRefused (words : List (List ℕ)) (files : Files) (log : Li
 abbrev pub NoCheckIsRefused : Type 0
 NoCheckIsRefused = (words : List (List ℕ)) (files : Files) (log : List ℕ) (asked : Asked)
     → IsCheckInOrder words files log asked → CheckIsNotRefused words files log asked
+
+-- no cause of a refusal holds at all
+pub record LogIsNotRefused (words : List (List ℕ)) (files : Files) (log : List ℕ) (asked : Asked) : Type 0 where
+  pub no_usage : form words ≢ None
+  pub found : (status : Status) → IsTrue (is_refusal status) → ¬ NoMachine (Some files) asked.arg status
+  pub looked : (status : Status) → IsTrue (is_refusal status) → (left taken taken' : Option (List ℕ)) → ¬ CheckedBy (λ t. t) (Some files) asked (Some log) left taken taken' status
+
+-- so it is if the log is lawful with bounds on the machine, but for the causes of its budgets
+abbrev pub NoLawfulLogIsRefused : Type 0
+NoLawfulLogIsRefused = (words : List (List ℕ)) (files : Files) (log : List ℕ) (asked : Asked)
+    → (good : IsCheckInOrder words files log asked) → IsLawfulText good.machine log → LogIsNotRefused words files log asked
+
+-- and if a run with bounds from the empty state on the same machine wrote it
+abbrev pub NoRunIsRejected : Type 0
+NoRunIsRejected = (words : List (List ℕ)) (files : Files) (asked : Asked) (budget : ℕ) (script : List ℕ) (taken taken' : Option (List ℕ)) (machine : Machine)
+    → (run : IsAnswered machine budget true empty_state script taken taken') → (good : IsCheckInOrder words files run.text asked) → good.machine ≡ machine
+    → LogIsNotRefused words files run.text asked

@@ -23,8 +23,9 @@ pub use farm_fault::FarmFault;
 pub use farm_laws::farms_are_lawful;
 pub use joined_logs::resumed_logs_join;
 pub use order::{
-    checks_in_order_are_answered, farms_in_order_are_answered, racks_in_order_are_composed,
-    resumes_in_order_are_answered, runs_in_order_are_answered,
+    checks_in_order_are_answered, farms_in_order_are_answered, lawful_logs_are_accepted,
+    racks_in_order_are_composed, resumes_in_order_are_answered, runs_are_accepted,
+    runs_in_order_are_answered,
 };
 pub use printer::printer_main;
 pub use status::{Long, Status};

@@ -1,10 +1,11 @@
 //! What holds where everything is in order. The calls do nothing: their contracts are the laws.
 
-ghost use Rattle.tp_program.specs.ChecksInOrder.{NoCheckIsRefused};
+ghost use Rattle.tp_program.specs.ChecksInOrder.{NoCheckIsRefused, NoLawfulLogIsRefused, NoRunIsRejected};
 ghost use Rattle.tp_program.specs.FarmsInOrder.{NoFarmIsRefused};
 ghost use Rattle.tp_program.specs.InOrder.{NoRackIsRefused, NoRunIsRefused};
 ghost use Rattle.tp_program.specs.ResumesInOrder.{NoResumeIsRefused};
 
+use tp_log_laws::bound_runs_are_accepted;
 use tp_snapshot::snapshots_are_read_back;
 
 /// Where the words ask for a run, saved or not, name the text of a machine, and the script keeps its sizes, no cause of a refusal holds. So
@@ -26,6 +27,21 @@ pub fn resumes_in_order_are_answered()
 pub fn checks_in_order_are_answered()
     ensures { NoCheckIsRefused }
 {}
+
+/// If the words ask for a check and name the text of a machine, and the log keeps its sizes and is lawful with bounds on that machine, but for
+/// the causes of its budgets, no cause of a refusal holds, `Rejected` included. So if the outside doesn't fail either, a check ends in
+/// `Done`, or in `Memory`.
+pub fn lawful_logs_are_accepted()
+    ensures { NoLawfulLogIsRefused }
+{}
+
+/// If a run with bounds wrote the log, and the words ask for a check of it on the same machine, and the log keeps its sizes, no cause of
+/// a refusal holds, `Rejected` included.
+pub fn runs_are_accepted()
+    ensures { NoRunIsRejected }
+{
+    bound_runs_are_accepted();
+}
 
 /// Where the words ask for what is composed of a rack, and name the text of one, no cause of a refusal holds. So where the
 /// outside doesn't fail either, composing ends in `Done`, or in `Memory`.
