@@ -3,3 +3,4 @@ mod MachineFacts
 mod ScriptFacts
 pub mod AnsweredEvents
 pub mod Counted
+mod CountedLines

@@ -1,7 +1,9 @@
 -- What is counted of a log, and the line that tells it.
-use Rattle.std.specs.Prelude.{ℕ, Bool, true, false, List, ◌++◌, codes, count_by, decimal}
+use Rattle.std.specs.Prelude.{ℕ, ◌+◌, ◌<◌, ◌^◌, Bool, true, false, List, ◌++◌, codes, count_by, decimal}
 use Rattle.tp_log.specs.declared.item.Item.{Item}
 use Rattle.tp_log.specs.declared.item.Item.TheVariants.{Event, Note, Tree}
+use Rattle.tp_log.specs.declared.log_line.LogLine.{LogLine}
+use Rattle.tp_log.specs.declared.log_line.LogLine.TheVariants as line
 use Rattle.tp_schedule.specs.declared.records.Record.{Record}
 use Rattle.tp_schedule.specs.declared.records.Record.TheVariants.{Plan, Move, Never, Budget, Release, Done, Lost}
 use Rattle.tp_soak.specs.declared.record_counts.RecordCounts.{RecordCounts}
@@ -45,7 +47,39 @@ counts_of items = record {
   budgets = count_by (tells kind.Budget) items;
 }
 
--- ---- the line, with its LF
+-- ---- counts by lines
+
+-- whether a line of a log is counted by a kind
+abbrev pub tells_line : ItemKind → LogLine → Bool
+tells_line kind (line.Note told) = is_of kind told
+tells_line kind (line.Event event) = is_event kind
+tells_line kind _ = false
+
+-- the counts of these lines
+abbrev pub line_counts : List LogLine → RecordCounts
+line_counts lines = record {
+  events = count_by (tells_line kind.Event) lines;
+  plans = count_by (tells_line kind.Plan) lines;
+  moves = count_by (tells_line kind.Move) lines;
+  releases = count_by (tells_line kind.Release) lines;
+  dones = count_by (tells_line kind.Done) lines;
+  lost = count_by (tells_line kind.Lost) lines;
+  nones = count_by (tells_line kind.Never) lines;
+  budgets = count_by (tells_line kind.Budget) lines;
+}
+
+-- each count can be one more
+pub record CanGrow (c : RecordCounts) : Type 0 where
+  pub events : c.events + 1 < 2 ^ 64
+  pub plans : c.plans + 1 < 2 ^ 64
+  pub moves : c.moves + 1 < 2 ^ 64
+  pub releases : c.releases + 1 < 2 ^ 64
+  pub dones : c.dones + 1 < 2 ^ 64
+  pub lost : c.lost + 1 < 2 ^ 64
+  pub nones : c.nones + 1 < 2 ^ 64
+  pub budgets : c.budgets + 1 < 2 ^ 64
+
+-- ---- the line that tells them, with its LF
 
 unfoldable pub head_text : ℕ → RecordCounts → List ℕ
 head_text arg c =

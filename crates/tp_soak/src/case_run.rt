@@ -10,18 +10,19 @@ ghost use Rattle.tp_soak.specs.SoakCounts.{counts_of};
 ghost use Rattle.tp_soak.specs.Summaries.{IsAtStart, IsCountedRun, IsLogText, IsSummary};
 ghost use Rattle.tp_stream.specs.Tellers.{TellsAll, most_events};
 
-use crate::record_counts::{RecordCounts, counts_of};
+use crate::record_counts::RecordCounts;
 use crate::summary::put_summary;
 use crate::{Case, soak_case};
 use std::alloc::Global;
 use tp_base::Memory;
-use tp_log::{LogFault, read_log};
+use tp_log::read_log_line;
 use tp_machine::Machine;
-use tp_script::Event;
+use tp_script::{Event, LineFault};
 use tp_session::{Session, Settings, sessions_are_lawful};
+use tp_words::first_line;
 
-/// The most bytes of a log that is read back.
-const MOST_BYTES: usize = 4_294_967_294;
+/// The most bytes of a line that is read.
+const LINE_BYTES: usize = 4_294_967_294;
 
 /// Answers the events in turn. The session keeps the text of all.
 fn answer_all(session: &mut Session, events: &[Event]) -> Result<(), Memory>
@@ -37,21 +38,28 @@ fn answer_all(session: &mut Session, events: &[Event]) -> Result<(), Memory>
     Ok(())
 }
 
-/// Reads the text of a log line by line, and counts what it tells. A text of 4 GB or more counts as want of memory.
+/// Reads the text of a log line by line, and counts what it tells. A line of 4 GB or more counts as want of memory.
 fn count_text(alloc: Global, text: &[u8]) -> Result<RecordCounts, Memory>
     requires { IsLogText text.now }
     ensures { (items : List Item) → IsLog items → text.now ≡ log_text items
         → IfOk result (λ counts. counts ≡ counts_of items) }
 {
-    if text.len() > MOST_BYTES {
-        return Err(Memory);
+    let mut counts = RecordCounts::none();
+    let mut rest = text;
+    'lines: while !rest.is_empty() {
+        let (line, more) = first_line(rest);
+        if line.len() > LINE_BYTES {
+            return Err(Memory);
+        }
+        match read_log_line(alloc, line) {
+            Ok(told) => counts = counts.with(&told),
+            Err(LineFault::Memory) => return Err(Memory),
+            // No line of a log is off the grammar.
+            Err(LineFault::Syntax) => unreachable!(),
+        }
+        rest = more;
     }
-    match read_log(alloc, text) {
-        Ok(items) => Ok(counts_of(&items)),
-        Err(LogFault::Memory) => Err(Memory),
-        // A log is off the grammar nowhere.
-        Err(LogFault::Bad(_)) => unreachable!(),
-    }
+    Ok(counts)
 }
 
 /// Answers the events by a session at its start, and counts what its log tells.

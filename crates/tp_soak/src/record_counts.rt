@@ -1,9 +1,10 @@
 //! What is counted of a log.
 
-ghost use Rattle.std.specs.Prelude.{◌≡◌, count_by};
-ghost use Rattle.tp_soak.specs.SoakCounts.{counts_of, is_event, is_of, tells};
+ghost use Rattle.std.specs.Prelude.{◌≡◌, ◌≤◌, ◌++◌, ◌∷◌, [], List, cond};
+ghost use Rattle.tp_log.specs.declared.log_line.LogLine.{LogLine};
+ghost use Rattle.tp_soak.specs.SoakCounts.{CanGrow, is_event, is_of, line_counts, tells_line};
 
-use tp_log::Item;
+use tp_log::LogLine;
 use tp_schedule::Record;
 
 /// What is counted: events, and records of some kinds.
@@ -53,34 +54,56 @@ fn is_of(kind: ItemKind, told: &Record) -> bool
     }
 }
 
-fn tells(kind: ItemKind, item: &Item) -> bool
-    ensures { result ≡ tells kind item.now }
+fn tells(kind: ItemKind, told: &LogLine) -> bool
+    ensures { result ≡ tells_line kind told.now }
 {
-    match item {
-        Item::Note(told) => is_of(kind, told),
-        Item::Event(_) => is_event(kind),
-        Item::Tree(_) => false,
+    match told {
+        LogLine::Note(told) => is_of(kind, told),
+        LogLine::Event(_) => is_event(kind),
+        _ => false,
     }
 }
 
-fn count(items: &[Item], kind: ItemKind) -> usize
-    ensures { result ≡ count_by (tells kind) items.now }
+/// How many lines of the kind this one is.
+fn count(kind: ItemKind, told: &LogLine) -> usize
+    ensures is { result ≡ cond (tells_line kind told.now) 1 0 }
+    ensures few { result ≤ 1 }
 {
-    items.iter().filter(|item| tells(kind, item)).count()
+    if tells(kind, told) { 1 } else { 0 }
 }
 
-/// The counts of a log by its items.
-pub(crate) fn counts_of(items: &[Item]) -> RecordCounts
-    ensures { result ≡ counts_of items.now }
-{
-    RecordCounts {
-        events: count(items, ItemKind::Event),
-        plans: count(items, ItemKind::Plan),
-        moves: count(items, ItemKind::Move),
-        releases: count(items, ItemKind::Release),
-        dones: count(items, ItemKind::Done),
-        lost: count(items, ItemKind::Lost),
-        nones: count(items, ItemKind::Never),
-        budgets: count(items, ItemKind::Budget),
+impl RecordCounts {
+    /// Of no line.
+    pub(crate) fn none() -> RecordCounts
+        ensures { result ≡ line_counts [] }
+    {
+        RecordCounts {
+            events: 0,
+            plans: 0,
+            moves: 0,
+            releases: 0,
+            dones: 0,
+            lost: 0,
+            nones: 0,
+            budgets: 0,
+        }
+    }
+
+    /// With one line more.
+    pub(crate) fn with(self, told: &LogLine) -> RecordCounts
+        requires room { CanGrow self }
+        ensures { (lines : List LogLine) → self ≡ line_counts lines
+            → result ≡ line_counts (lines ++ told.now ∷ []) }
+    {
+        RecordCounts {
+            events: self.events + count(ItemKind::Event, told),
+            plans: self.plans + count(ItemKind::Plan, told),
+            moves: self.moves + count(ItemKind::Move, told),
+            releases: self.releases + count(ItemKind::Release, told),
+            dones: self.dones + count(ItemKind::Done, told),
+            lost: self.lost + count(ItemKind::Lost, told),
+            nones: self.nones + count(ItemKind::Never, told),
+            budgets: self.budgets + count(ItemKind::Budget, told),
+        }
     }
 }
