@@ -4,7 +4,7 @@ use Rattle.toml.specs.Data.{Members}
 use Rattle.tp_machine.specs.declared.machine.Machine.{Machine}
 use Rattle.tp_machine_text.specs.Broken as table
 use Rattle.tp_machine_text.specs.TheMachine.{IsMachineOf}
-use Rattle.tp_machine_text.specs.Texts.{IsToml, IsNotToml, IsMachineText}
+use Rattle.tp_machine_text.specs.Texts.{IsToml, IsNotToml, IsMachineText, IsPrintedText}
 use Rattle.tp_compose.specs.Broken.{first_broken}
 use Rattle.tp_compose.specs.Flat.{flat}
 
@@ -26,9 +26,13 @@ IsRackBrokenAt n text = (r : Members) × IsToml text r × (first_broken r ≡ So
 abbrev pub IsFlatBrokenAt : ℕ → List ℕ → Type 0
 IsFlatBrokenAt n text = (r : Members) × IsToml text r × (first_broken r ≡ None) × (flat_broken r ≡ Some n)
 
--- the text is a rack text, and the bytes are a machine text of its machine
+-- the bytes are those that are printed for the machine, and are read as it
+abbrev pub IsTextOf : List ℕ → Machine → Type 0
+IsTextOf bytes machine = IsMachineText bytes machine × IsPrintedText bytes machine
+
+-- the text is a rack text, and the bytes are the machine text that is printed for its machine
 abbrev pub IsComposed : List ℕ → List ℕ → Type 0
-IsComposed text bytes = (r : Members) × (machine : Machine) × IsToml text r × IsMachineOfRack r machine × IsMachineText bytes machine
+IsComposed text bytes = (r : Members) × (machine : Machine) × IsToml text r × IsMachineOfRack r machine × IsTextOf bytes machine
 
 -- nothing is wrong with the text
 abbrev pub IsSoundRack : List ℕ → Type 0

@@ -1,10 +1,10 @@
 //! What is composed of a rack text.
 ghost use Rattle.std.specs.Prelude.{◌≡◌, ℕ, Some, None, IfOk, IfErr};
 ghost use Rattle.toml.specs.View.{table_view};
-ghost use Rattle.tp_machine_text.specs.Texts.{IsNotToml, IsMachineText};
+ghost use Rattle.tp_machine_text.specs.Texts.{IsNotToml};
 ghost use Rattle.tp_compose.specs.Broken.{first_broken};
 ghost use Rattle.tp_compose.specs.Flat.{flat};
-ghost use Rattle.tp_compose.specs.Texts.{flat_broken, IsMachineOfRack, IsRackBrokenAt, IsFlatBrokenAt, IsComposed, IsSoundRack};
+ghost use Rattle.tp_compose.specs.Texts.{flat_broken, IsMachineOfRack, IsRackBrokenAt, IsFlatBrokenAt, IsComposed, IsSoundRack, IsTextOf};
 
 use crate::end_rules::{first_broken_end, first_ends, own_names};
 use crate::flat_table::flat_of;
@@ -48,7 +48,7 @@ pub fn compose(alloc: Global, text: &[u8]) -> Result<Vec<u8>, RackFault>
 /// Composes the machine text of a rack's table. It never returns NotToml.
 fn compose_table(alloc: Global, table: &Table) -> Result<Vec<u8>, RackFault>
     ensures ok { IfOk result (λ bytes. (machine : Machine)
-        × IsMachineOfRack (table_view table.now) machine × IsMachineText bytes.items machine) }
+        × IsMachineOfRack (table_view table.now) machine × IsTextOf bytes.items machine) }
     ensures toml { IfErr result (λ e. ¬ (e ≡ RackFault.NotToml)) }
     ensures rule { IfErr result (λ e. (n : ℕ) → e ≡ RackFault.Rule n
         → first_broken (table_view table.now) ≡ Some n) }

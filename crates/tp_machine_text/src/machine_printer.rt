@@ -1,16 +1,18 @@
 //! A machine as a machine text.
 ghost use Rattle.std.specs.Prelude.{◌≡◌, IfOk, IsUtf8, string_bytes};
-ghost use Rattle.tp_machine_text.specs.Texts.{IsMachineText};
+ghost use Rattle.tp_machine_text.specs.Texts.{IsMachineText, IsPrintedText};
 
 use crate::machine_table::table_of;
 use std::alloc::Global;
 use tp_base::Memory;
 use tp_machine::Machine;
 
-/// A text that is read as an equal machine. Each key has a line of its own, and the feeders, the
-/// resources, each action and each hold stand under a header.
+/// Prints a machine as a text of format 2 that is read as an equal machine. Every key is there, in
+/// byte order and on a line of its own. The feeders, the gaps, the resources, the stocks, each action
+/// and each hold stand under a header.
 pub fn print_machine(alloc: Global, machine: &Machine) -> Result<Vec<u8>, Memory>
-    ensures { IfOk result (λ text. IsMachineText text.items machine.now) }
+    ensures reads { IfOk result (λ text. IsMachineText text.items machine.now) }
+    ensures printed { IfOk result (λ text. IsPrintedText text.items machine.now) }
 {
     let table = table_of(alloc, machine)?;
     match toml::table_to_string(alloc, &table) {

@@ -14,17 +14,17 @@ returns-clause-one_line c =
 
 pub returns-clause-written : goal.returns-clause-written
 returns-clause-written c =
-    written c.in_ok-text.text.items c.in_ok-to_vec.field-0.items c.args.machine.now c.args.standing.now (view c.in_ok-value.value) c.in_ok-text.ensures
+    written c.in_ok-text.text.items c.in_ok-to_vec.field-0.items c.args.machine.now c.args.standing.now (view c.in_ok-value.value) c.in_ok-text.ensures.reads
     (c.in_ok-value.ensures ∙ ap (λ (bytes : List ℕ). snapshot_data bytes c.args.machine.now c.args.standing.now) c.as_slice.ensures.value) c.in_ok-to_vec.ensures.utf8 c.in_ok-to_vec.ensures.reads_back
 
 pub returns-clause-snapshot : goal.returns-clause-snapshot
 returns-clause-snapshot c =
     written-is-read c.in_ok-to_vec.field-0.items c.args.machine.now c.args.standing.now c.requires c.standing_law.ensures
-    (written c.in_ok-text.text.items c.in_ok-to_vec.field-0.items c.args.machine.now c.args.standing.now (view c.in_ok-value.value) c.in_ok-text.ensures
+    (written c.in_ok-text.text.items c.in_ok-to_vec.field-0.items c.args.machine.now c.args.standing.now (view c.in_ok-value.value) c.in_ok-text.ensures.reads
     (c.in_ok-value.ensures ∙ ap (λ (bytes : List ℕ). snapshot_data bytes c.args.machine.now c.args.standing.now) c.as_slice.ensures.value) c.in_ok-to_vec.ensures.utf8 c.in_ok-to_vec.ensures.reads_back)
 
 pub snapshot_value-requires-clause-utf8 : goal.snapshot_value-requires-clause-utf8
-snapshot_value-requires-clause-utf8 c = rw c.as_slice.ensures.value c.in_ok-text.ensures.1.utf8
+snapshot_value-requires-clause-utf8 c = rw c.as_slice.ensures.value c.in_ok-text.ensures.reads.1.utf8
 
 pub snapshot_value-requires-clause-named : goal.snapshot_value-requires-clause-named
 snapshot_value-requires-clause-named c = has-names c.args.machine.now c.args.standing.now c.requires
