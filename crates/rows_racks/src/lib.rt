@@ -1,11 +1,10 @@
-//! Worked rows of racks: a crate of tests, with the racks' texts.
+//! Worked rows of racks: a crate of tests alone.
 #![tactic(auto)]
 
 #[cfg(test)]
 mod drawn_racks;
 #[cfg(test)]
-mod faults;
-pub mod racks;
+mod racks;
 #[cfg(test)]
 mod random_walks;
 #[cfg(test)]

@@ -1,7 +1,7 @@
 //! The racks of the rows, as the files of racks/ have them, and the machine that the small one comes to.
 
 /// Three parts in a row: a feeder unit, an engine and a stacker.
-pub const SMALL: &str = r#"format = 1
+pub(crate) const SMALL: &str = r#"format = 1
 lead = 2
 window = 200
 joins = [["p1.y", "p2.a"], ["p2.b", "p3.b"]]
@@ -38,7 +38,7 @@ actions = [
 "#;
 
 /// The machine of the small rack.
-pub const FLAT: &str = r#"format = 2
+pub(crate) const FLAT: &str = r#"format = 2
 lead = 2
 window = 200
 locations = ["p1-x", "p1-y", "p2-b", "p3-t"]

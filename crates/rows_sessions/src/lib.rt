@@ -1,12 +1,8 @@
-//! Worked rows of jobs, events, logs, sessions, snapshots and farms: a crate of tests alone.
+//! Worked rows of jobs, events, logs, sessions, snapshots and generated cases: a crate of tests alone.
 #![tactic(auto)]
 
 #[cfg(test)]
-mod broken_snapshots;
-#[cfg(test)]
 mod clocks;
-#[cfg(test)]
-mod farms;
 #[cfg(test)]
 mod jobs;
 #[cfg(test)]
@@ -21,5 +17,7 @@ mod saved_snapshots;
 mod scripts;
 #[cfg(test)]
 mod sessions;
+#[cfg(test)]
+mod soak_cases;
 #[cfg(test)]
 mod stocks;

@@ -5,18 +5,18 @@ ghost use Rattle.tp_session_standing.specs.Sound.{IsSound};
 use rows_machine::machines::{DUO, TWIN};
 use std::alloc::Global;
 use std::test::Fail;
-use tp_snapshot::{Opened, SnapFault, read_snapshot, write_snapshot};
+use tp_snapshot::{Opened, read_snapshot, write_snapshot};
 
 /// A machine text, and what a snapshot has before it and behind it.
 #[derive(Clone, Copy)]
-pub(crate) struct Saved {
-    pub machine: &'static str,
-    pub head: &'static str,
-    pub tail: &'static str,
+struct Saved {
+    machine: &'static str,
+    head: &'static str,
+    tail: &'static str,
 }
 
 /// One sheet, of which the feed alone is released.
-pub(crate) const ONE: Saved = Saved {
+const ONE: Saved = Saved {
     machine: DUO,
     head: r#"{"format":1,"jobs":[{"broken":false,"name":"j1","tray":"t"}],"machine":"#,
     tail: concat!(
@@ -27,7 +27,7 @@ pub(crate) const ONE: Saved = Saved {
 };
 
 /// The engine with the sheet jams: the copy is lost, but its front still runs, and the next copy goes round it.
-pub(crate) const JAMMED: Saved = Saved {
+const JAMMED: Saved = Saved {
     machine: DUO,
     head: r#"{"format":1,"jobs":[{"broken":false,"name":"j1","tray":"t"}],"machine":"#,
     tail: concat!(
@@ -40,7 +40,7 @@ pub(crate) const JAMMED: Saved = Saved {
 };
 
 /// TWIN with five sheets at its feeder.
-pub(crate) const STOCKED: &str = r#"format = 2
+const STOCKED: &str = r#"format = 2
 lead = 2
 window = 200
 locations = ["f", "a", "t"]
@@ -86,7 +86,7 @@ holds = [{ resource = "rr", begin = ["start", 0], end = ["end", 0] }]
 
 /// The first sheet is lost as the second one enters the tray, so that its job breaks. Then the other way goes out too, and a third job
 /// waits. Three sheets are left of five.
-pub(crate) const AFTERMATH: Saved = Saved {
+const AFTERMATH: Saved = Saved {
     machine: STOCKED,
     head: concat!(
         r#"{"format":1,"jobs":[{"broken":true,"name":"j1","tray":"t"},"#,
@@ -103,7 +103,7 @@ pub(crate) const AFTERMATH: Saved = Saved {
 };
 
 /// The snapshot's text. Between quotes JSON writes a machine text as `{:?}` does: what is escaped in it is `"` and LF alone.
-pub(crate) fn text_of(alloc: Global, saved: Saved) -> Result<String, Fail> {
+fn text_of(alloc: Global, saved: Saved) -> Result<String, Fail> {
     let Saved {
         machine,
         head,
@@ -122,14 +122,11 @@ fn written(alloc: Global, opened: &Opened) -> Result<Vec<u8>, Fail>
     }
 }
 
-/// What is written of the machine and the standing that the bytes tell. Else the number of the rule that they break, and 11 where they
-/// are no JSON.
-pub(crate) fn again(alloc: Global, bytes: &[u8]) -> Result<Result<Vec<u8>, u8>, Fail> {
+/// What is written of the machine and the standing that these bytes hold.
+fn again(alloc: Global, bytes: &[u8]) -> Result<Vec<u8>, Fail> {
     match read_snapshot(alloc, bytes) {
-        Ok(opened) => Ok(Ok(written(alloc, &opened)?)),
-        Err(SnapFault::Memory) => Err(Fail::from("memory")),
-        Err(SnapFault::NotJson) => Ok(Err(11)),
-        Err(SnapFault::Rule(rule)) => Ok(Err(rule)),
+        Ok(opened) => written(alloc, &opened),
+        Err(_) => Err(Fail::from("the snapshot is refused")),
     }
 }
 
@@ -137,11 +134,11 @@ pub(crate) fn again(alloc: Global, bytes: &[u8]) -> Result<Result<Vec<u8>, u8>, 
 fn snapshots_are_written_again(rt: HostRuntime) -> Result<(), Fail> {
     for saved in [ONE, JAMMED, AFTERMATH] {
         let text = text_of(rt.alloc(), saved)?;
-        let first = again(rt.alloc(), text.as_bytes())?.ok().ok_or("refused")?;
-        let second = again(rt.alloc(), &first)?.ok().ok_or("refused")?;
+        let first = again(rt.alloc(), text.as_bytes())?;
+        let second = again(rt.alloc(), &first)?;
         assert!(rt; first.starts_with(saved.head.as_bytes()));
         assert!(rt; first.ends_with(saved.tail.as_bytes()));
-        assert_eq!(rt; first.as_slice(), second.as_slice());
+        assert!(rt; first == second);
     }
     Ok(())
 }

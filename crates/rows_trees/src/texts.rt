@@ -85,6 +85,146 @@ fn whole_trees(rt: HostRuntime) -> Result<(), Fail> {
     Ok(())
 }
 
+/// The other trees of the worked scripts' logs with bounds.
+const OF_WORKED_SCRIPTS: [&[u8]; 16] = [
+    b"b room f:F00 0\n\
+      b room a:F00 2\n\
+      b room b:F10 8\n\
+      b room t:F10 11\n\
+      b room p:F10 11\n\
+      b 0 goal t:F10 split\n\
+      b 1 act out split\n\
+      b 2 at rt 0 0 loop *0 rt:*/1>j1.1.1/3 l:*0\n\
+      b 2 at rt 1 1 split\n\
+      b 3 act print1 chain *2 d:*1 d:*0\n\
+      b 3 act print2 split\n\
+      b 4 at r2 0 0 chain *1 r2:*/2>j1.1.1/2 d:j1.1.1@2 d:j1.1.1@3 rt:j1.1.1/3>*/1\n\
+      b 4 at r2 1 1 chain j1.1.1@0 d:j1.1.1@1 d:j1.1.1@2 r2:j1.1.1/2>*/2 d:*1 d:*0\n",
+    b"b room f:F00 0\n\
+      b room a:F00 2\n\
+      b room b:F10 11\n\
+      b room t:F10 14\n\
+      b room p:F10 14\n\
+      b 0 goal t:F10 chain *0\n",
+    b"b room a:F00 0\n\
+      b room b:F10 6\n\
+      b room p:F10 9\n\
+      b 0 goal p:F00 dead\n\
+      b 0 goal p:F10 chain *0\n\
+      b 0 goal p:B00 dead\n\
+      b 0 goal p:B10 dead\n",
+    b"b room b:F10 0\n\
+      b room p:F10 3\n\
+      b 0 goal t:F10 dead\n",
+    b"b room b:F10 0\n\
+      b room p:F10 3\n\
+      b 0 goal p:F00 dead\n\
+      b 0 goal p:F10 chain *0\n\
+      b 0 goal p:B00 dead\n\
+      b 0 goal p:B10 dead\n",
+    b"b room b:F10 0\n\
+      b 0 goal p:F00 dead\n\
+      b 0 goal p:F10 dead\n\
+      b 0 goal p:B00 dead\n\
+      b 0 goal p:B10 dead\n",
+    b"b room f:F00 0\n\
+      b room a:F00 2\n\
+      b room b:F10 11\n\
+      b 0 goal t:F10 dead\n",
+    b"b room f:F00 0\n\
+      b room a:F00 2\n\
+      b 0 goal t:F10 dead\n",
+    b"b room f:F00 0\n\
+      b room a:F00 2\n\
+      b room t:F00 7\n\
+      b 0 goal t:F00 chain *0\n",
+    b"b room f:F00 0\n\
+      b room a:F00 2\n\
+      b room t:F00 7\n\
+      b 0 goal t:F00 split\n\
+      b 1 act left chain *1 d:*0\n\
+      b 1 act right split\n\
+      b 2 at rr 0 0 loop *0 rr:*/1>j1.1.1/2 d:j1.1.1@2 l:*0\n\
+      b 2 at rr 1 1 chain j1.1.1@0 d:j1.1.1@1 d:j1.1.1@2 rr:j1.1.1/2>*/1 d:*0\n",
+    b"b room f:F00 0\n\
+      b room a:F00 2\n\
+      b room t:F00 5\n\
+      b 0 goal t:F00 chain *0\n",
+    b"b room f:F00 0\n\
+      b room a:F00 2\n\
+      b room t:F00 5\n\
+      b 0 goal t:F00 split\n\
+      b 1 act out split\n\
+      b 2 at rt 0 0 loop *0 rt:*/1>j1.1.1/2 l:*0\n\
+      b 2 at rt 1 1 split\n\
+      b 3 act feed split\n\
+      b 4 at rf 0 0 loop j1.1.1@2 l:*0 d:*1 rf:*/2>j1.1.1/1 d:j1.1.1@1 d:j1.1.1@2\n\
+      b 4 at rf 1 1 chain j1.1.1@0 d:j1.1.1@1 rf:j1.1.1/1>*/2 d:*1 d:*0\n",
+    b"b room f:F00 0\n\
+      b room a:F00 2\n\
+      b room a:F11 6\n\
+      b room a:B10 4\n\
+      b room t:F00 5\n\
+      b room t:F11 9\n\
+      b room t:B10 7\n\
+      b 0 goal t:F11 split\n\
+      b 1 act out split\n\
+      b 2 at rt 0 0 split\n\
+      b 3 act feed dead\n\
+      b 3 act print split\n\
+      b 4 at rp 0 0 split\n\
+      b 5 act feed dead\n\
+      b 5 act print split\n\
+      b 6 at rp 0 0 loop *2 rp:*/3>*/2\n\
+      b 6 at rp 1 1 loop *1 rp:*/2>*/3 d:*2 d:*1\n\
+      b 5 act turn chain *3 d:*2 d:*1 d:*0\n\
+      b 3 act turn chain *2 d:*1 d:*0\n",
+    b"b room f:F00 0\n\
+      b room a:F00 2\n\
+      b room b:F10 8\n\
+      b room t:F10 11\n\
+      b room p:F10 11\n\
+      b 0 goal t:F10 split\n\
+      b 1 act out split\n\
+      b 2 at rt 0 0 loop *0 rt:*/1>j1.1.1/3 l:*0\n\
+      b 2 at rt 1 1 split\n\
+      b 3 act tint split\n\
+      b 4 at r2 0 0 chain *1 r2:*/2>j1.1.1/2 d:j1.1.1@2 d:j1.1.1@3 rt:j1.1.1/3>*/1\n\
+      b 4 at r2 1 1 chain j1.1.1@0 d:j1.1.1@1 d:j1.1.1@2 r2:j1.1.1/2>*/2 d:*1 d:*0\n",
+    b"b room f:F00 0\n\
+      b room a:F00 2\n\
+      b room b:F10 8\n\
+      b room t:F10 11\n\
+      b room p:F10 11\n\
+      b 0 goal t:F10 split\n\
+      b 1 act out split\n\
+      b 2 at rt 0 0 loop *0 rt:*/1>j1.1.1/3 l:*0\n\
+      b 2 at rt 1 1 split\n\
+      b 3 act print2 split\n\
+      b 4 at r2 0 0 chain *1 r2:*/2>j1.1.1/2 d:j1.1.1@2 d:j1.1.1@3 rt:j1.1.1/3>*/1\n\
+      b 4 at r2 1 1 chain j1.1.1@0 d:j1.1.1@1 d:j1.1.1@2 r2:j1.1.1/2>*/2 d:*1 d:*0\n",
+    b"b room f:F00 0\n\
+      b room a:F00 2\n\
+      b room b:F10 8\n\
+      b room t:F10 11\n\
+      b room p:F10 11\n\
+      b 0 goal t:F10 split\n\
+      b 1 act out split\n\
+      b 2 at rt 0 0 chain *0 rt:*/1>j1.1.1/3\n\
+      b 2 at rt 1 1 split\n\
+      b 3 act tint split\n\
+      b 4 at r2 0 0 chain *1 r2:*/2>j1.1.1/2\n\
+      b 4 at r2 1 1 chain j1.1.1@2 r2:j1.1.1/2>*/2 d:*1 d:*0\n",
+];
+
+#[test]
+fn trees_of_worked_scripts(rt: HostRuntime) -> Result<(), Fail> {
+    for text in OF_WORKED_SCRIPTS {
+        is_tree(rt.alloc(), text)?;
+    }
+    Ok(())
+}
+
 #[test]
 fn first_lines_off_the_grammar(rt: HostRuntime) -> Result<(), Fail> {
     let rows: [(&[u8], u64); 20] = [
@@ -111,7 +251,7 @@ fn first_lines_off_the_grammar(rt: HostRuntime) -> Result<(), Fail> {
     ];
     for (text, wanted) in rows {
         match read(rt.alloc(), text) {
-            Err(TreeFault::Bad(line)) => assert_eq!(rt; line, wanted, "{text:?}"),
+            Err(TreeFault::Bad(line)) => assert!(rt; line == wanted, "{text:?}"),
             _ => return Err(Fail::from("a row off the grammar is read")),
         }
     }

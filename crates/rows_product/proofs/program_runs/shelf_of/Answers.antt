@@ -1,8 +1,0 @@
--- A new shelf has no file.
-use Rattle.std.specs.Ordering.{nat_cmp}
-use Rattle.std.specs.Cmp.Lexicographic.{slice_cmp}
-use Rattle.std.specs.FinMap.{get-empty}
-use Rattle.rows_product.proofs.program_runs.shelf_of.Goals as goal
-
-pub add-requires : goal.add-requires
-add-requires c = rw c.new-shelf.ensures.files (get-empty (slice_cmp nat_cmp) _)
