@@ -88,6 +88,6 @@ pub(crate) fn way_out_behind_a_front<N: Network>(
         end: 11,
         kept: 2,
     };
-    assert_eq!(rt; told, (origin, 14));
+    assert!(rt; told == (origin, 14));
     Ok(())
 }

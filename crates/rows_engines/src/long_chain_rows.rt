@@ -30,7 +30,7 @@ fn lay_chain<N: Network>(rt: &impl Abort, net: &mut N)
     ensures max_marks { N.reading.max_marks net.new ≡ N.reading.max_marks net.old }
 {
     'chain: for number in 0..POINTS {
-        assert_eq!(rt; net.point(0, CAP), Ok(PointId(number)));
+        assert!(rt; net.point(0, CAP) == Ok(PointId(number)));
         if number > 0 {
             let edge = Edge {
                 from: PointId(number - 1),
@@ -38,7 +38,7 @@ fn lay_chain<N: Network>(rt: &impl Abort, net: &mut N)
                 weight: 1,
                 tag: number,
             };
-            assert_eq!(rt; net.require(edge), Ok(()));
+            assert!(rt; net.require(edge) == Ok(()));
         }
     }
 }
@@ -58,7 +58,7 @@ fn lengthen<N: Network>(rt: &impl Abort, net: &mut N)
             weight: 16_642 + i64::from(more),
             tag: 0,
         };
-        assert_eq!(rt; net.require(edge), Ok(()));
+        assert!(rt; net.require(edge) == Ok(()));
     }
 }
 
@@ -70,10 +70,10 @@ fn mark_all<N: Network>(rt: &impl Abort, net: &mut N)
     ensures past { length (N.reading.past net.new) ≡ 330 }
 {
     'marks: for number in 0..MARKS {
-        assert_eq!(rt; set_mark(net), Mark(number));
+        assert!(rt; set_mark(net) == Mark(number));
         let point = PointId(number);
         let time = net.earliest(point);
-        assert_eq!(rt; net.raise(point, time), Ok(()));
+        assert!(rt; net.raise(point, time) == Ok(()));
     }
 }
 
@@ -89,11 +89,11 @@ fn go_along<N: Network>(rt: &impl Abort, net: &mut N)
     let mark = set_mark(net);
     lengthen(rt, net);
     go_back(net, mark);
-    assert_eq!(rt; net.earliest(PointId(POINTS - 1)), 16_641);
+    assert!(rt; net.earliest(PointId(POINTS - 1)) == 16_641);
     mark_all(rt, net);
-    assert_eq!(rt; net.spare_marks(), 0);
+    assert!(rt; net.spare_marks() == 0);
     net.undo_to(Mark(0));
-    assert_eq!(rt; net.spare_marks(), MARKS);
+    assert!(rt; net.spare_marks() == MARKS);
 }
 
 #[test]

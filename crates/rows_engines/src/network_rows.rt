@@ -38,12 +38,12 @@ fn lay_out<N: Network>(rt: &impl Abort, net: &mut N)
     ensures marks { N.reading.max_marks net.new ≡ N.reading.max_marks net.old }
     ensures edges { N.reading.max_edges net.new ≡ N.reading.max_edges net.old }
 {
-    assert_eq!(rt; net.point(0, 20), Ok(A));
-    assert_eq!(rt; net.point(3, 20), Ok(B));
-    assert_eq!(rt; net.point(0, 20), Ok(C));
-    assert_eq!(rt; net.point(0, 20), Err(Full));
-    assert_eq!(rt; net.require(edge(A, B, 5)), Ok(()));
-    assert_eq!(rt; net.require(edge(B, C, 2)), Ok(()));
+    assert!(rt; net.point(0, 20) == Ok(A));
+    assert!(rt; net.point(3, 20) == Ok(B));
+    assert!(rt; net.point(0, 20) == Ok(C));
+    assert!(rt; net.point(0, 20) == Err(Full));
+    assert!(rt; net.require(edge(A, B, 5)) == Ok(()));
+    assert!(rt; net.require(edge(B, C, 2)) == Ok(()));
 }
 
 /// What a mark keeps stands again after it was gone back to.
@@ -58,13 +58,13 @@ fn goes_back<N: Network>(rt: &impl Abort, net: &mut N)
     ensures edges { N.reading.max_edges net.new ≡ N.reading.max_edges net.old }
 {
     let mark = set_mark(net);
-    assert_eq!(rt; net.require(edge(A, C, 9)), Ok(()));
-    assert_eq!(rt; net.earliest(C), 9);
-    assert_eq!(rt; net.raise(B, 8), Ok(()));
-    assert_eq!(rt; net.earliest(C), 10);
+    assert!(rt; net.require(edge(A, C, 9)) == Ok(()));
+    assert!(rt; net.earliest(C) == 9);
+    assert!(rt; net.raise(B, 8) == Ok(()));
+    assert!(rt; net.earliest(C) == 10);
     go_back(net, mark);
-    assert_eq!(rt; net.earliest(B), 5);
-    assert_eq!(rt; net.earliest(C), 7);
+    assert!(rt; net.earliest(B) == 5);
+    assert!(rt; net.earliest(C) == 7);
 }
 
 fn weigh(edges: &[Edge]) -> i64 {
@@ -82,12 +82,12 @@ fn shows_a_chain<N: Network>(rt: &impl Abort, net: &mut N)
     ensures net { N.reading.net net.new ≡ N.reading.net net.old }
     ensures edges { N.reading.max_edges net.new ≡ N.reading.max_edges net.old }
 {
-    assert_eq!(rt; net.require(edge(B, C, 16)), Err(Late));
-    assert_eq!(rt; net.earliest(C), 7);
+    assert!(rt; net.require(edge(B, C, 16)) == Err(Late));
+    assert!(rt; net.earliest(C) == 7);
     match net.proof() {
         Proof::Chain { first, edges } => {
-            assert_eq!(rt; first, A);
-            assert_eq!(rt; weigh(edges), 21);
+            assert!(rt; first == A);
+            assert!(rt; weigh(edges) == 21);
         }
         Proof::Circle { edges: _ } => assert!(rt; false),
     }
@@ -98,11 +98,11 @@ fn shows_a_closed_walk<N: Network>(rt: &impl Abort, net: &mut N)
     requires net { N.reading.net net.old ≡ three_points }
     requires edges { 3 ≤ N.reading.max_edges net.old }
 {
-    assert_eq!(rt; net.require(edge(C, B, -1)), Err(Late));
-    assert_eq!(rt; net.earliest(C), 7);
+    assert!(rt; net.require(edge(C, B, -1)) == Err(Late));
+    assert!(rt; net.earliest(C) == 7);
     match net.proof() {
         Proof::Chain { first: _, edges } => assert!(rt; weigh(edges) > 17),
-        Proof::Circle { edges } => assert_eq!(rt; weigh(edges), 1),
+        Proof::Circle { edges } => assert!(rt; weigh(edges) == 1),
     }
 }
 
@@ -119,10 +119,10 @@ fn look_at_net<N: Network>(rt: &impl Abort, net: &mut N)
     assert!(rt; could_take(net, edge(A, C, 9)));
     shows_a_chain(rt, net);
     shows_a_closed_walk(rt, net);
-    assert_eq!(rt; net.spare_edges(), 3);
-    assert_eq!(rt; net.spare_marks(), 1);
+    assert!(rt; net.spare_edges() == 3);
+    assert!(rt; net.spare_marks() == 1);
     net.clear();
-    assert_eq!(rt; net.spare_edges(), 5);
+    assert!(rt; net.spare_edges() == 5);
 }
 
 /// C comes by the edges from A over B, 0 + 5 + 2. A trail of one item has no room for both.
@@ -131,11 +131,11 @@ fn shows_its_support(rt: &impl Abort, net: &LiveNet, two: &mut Trail<Edge>, one:
     requires two { two.old.items ≡ [] }
     requires one { one.old.items ≡ [] }
 {
-    assert_eq!(rt; net.chain_of(C, two), Ok(A));
-    assert_eq!(rt; two.as_slice(), [edge(A, B, 5), edge(B, C, 2)].as_slice());
-    assert_eq!(rt; net.chain_of(C, one), Err(Full));
-    assert_eq!(rt; one.len(), 0);
-    assert_eq!(rt; net.chain_of(A, one), Ok(A));
+    assert!(rt; net.chain_of(C, two) == Ok(A));
+    assert!(rt; two.as_slice() == [edge(A, B, 5), edge(B, C, 2)].as_slice());
+    assert!(rt; net.chain_of(C, one) == Err(Full));
+    assert!(rt; one.len() == 0);
+    assert!(rt; net.chain_of(A, one) == Ok(A));
 }
 
 #[test]

@@ -246,7 +246,7 @@ pub(crate) fn plans_in_turn<N: Network>(
         [3, 5, 14, 17],
         [3, 5, 11, 14],
     ];
-    assert_eq!(rt; points, wanted);
+    assert!(rt; points == wanted);
     Ok(())
 }
 
@@ -265,11 +265,11 @@ pub(crate) fn choices_of_the_second<N: Network>(
 {
     let engines = [(PRINT2, 2, 0), (PRINT2, 2, 1)];
     let bounds = bounds_of(alloc, board, rooms, machine, &[(OUT, 8, 1)], engines)?;
-    assert_eq!(rt; bounds, [15, 21, 20]);
+    assert!(rt; bounds == [15, 21, 20]);
     let way = [(OUT, 8, 1), (PRINT1, 2, 0)];
     let feeds = [(FEED, 0, 0), (FEED, 0, 1)];
     let bounds = bounds_of(alloc, board, rooms, machine, &way, feeds)?;
-    assert_eq!(rt; bounds, [17, 17, 19]);
+    assert!(rt; bounds == [17, 17, 19]);
     Ok(())
 }
 
@@ -288,7 +288,7 @@ pub(crate) fn place_before_the_first_is_late<N: Network>(
 {
     let (ask, state) = second_begun(alloc, board, rooms, machine, &[])?;
     let told = bounds_where_late(board, machine, &ask, state, OUT, 8)?;
-    assert_eq!(rt; told, ([15, 15, 15], 1));
+    assert!(rt; told == ([15, 15, 15], 1));
     Ok(())
 }
 
@@ -307,9 +307,9 @@ pub(crate) fn places_from_the_end<N: Network>(
 {
     let (ask, state) = second_begun(alloc, board, rooms, machine, &[])?;
     let behind = tried_at(board, machine, &ask, state, (OUT, 8, 1))?;
-    assert_eq!(rt; behind, None);
+    assert!(rt; behind == None);
     let (ask, state) = second_begun(alloc, board, rooms, machine, &[])?;
     let before = tried_at(board, machine, &ask, state, (OUT, 8, 0))?;
-    assert_eq!(rt; before, Some(Refused::UpToHere));
+    assert!(rt; before == Some(Refused::UpToHere));
     Ok(())
 }

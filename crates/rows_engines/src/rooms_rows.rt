@@ -175,6 +175,6 @@ fn both_sides(rt: HostRuntime) -> Result<(), Fail> {
     let given = room_on_loop(rt.alloc())?;
     // Feed, print, print and out: room looks at durations alone, not at the resource that both
     // prints hold.
-    assert_eq!(rt; given, Some(9));
+    assert!(rt; given == Some(9));
     Ok(())
 }

@@ -240,7 +240,7 @@ pub(crate) fn earliest_in_turn<N: Network>(
 {
     let told = points_in_turn(alloc, board, machine)?;
     let points = [[3, 5, 11, 14], [5, 7, 13, 16], [3, 5, 14, 17]];
-    assert_eq!(rt; told, ([Reply::Planned; 2], points));
+    assert!(rt; told == ([Reply::Planned; 2], points));
     Ok(())
 }
 
@@ -266,7 +266,7 @@ pub(crate) fn modules_out<N: Network>(
     ];
     'rows: for (outs, reply, end) in rows {
         let told = first_end(alloc, board, machine, 1000, Outs(outs))?;
-        assert_eq!(rt; told, (reply, end), "{outs} out");
+        assert!(rt; told == (reply, end), "{outs} out");
     }
     Ok(())
 }
@@ -294,7 +294,7 @@ pub(crate) fn nodes_for_the_first<N: Network>(
     ];
     'rows: for (nodes, reply, end) in rows {
         let told = first_end(alloc, board, machine, nodes, Outs(0))?;
-        assert_eq!(rt; told, (reply, end), "{nodes} nodes");
+        assert!(rt; told == (reply, end), "{nodes} nodes");
     }
     Ok(())
 }
@@ -324,7 +324,7 @@ pub(crate) fn nodes_for_the_second<N: Network>(
     ];
     'rows: for (nodes, reply) in rows {
         let told = second_reply(alloc, board, machine, nodes)?;
-        assert_eq!(rt; told, reply, "{nodes} nodes");
+        assert!(rt; told == reply, "{nodes} nodes");
     }
     Ok(())
 }

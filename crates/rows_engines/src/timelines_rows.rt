@@ -11,20 +11,20 @@ const SECOND: ResId = ResId(1);
 #[test]
 fn timelines_rows(rt: HostRuntime) -> Result<(), Fail> {
     let mut lines = Timelines::new(rt.alloc(), 2, 5, 2)?;
-    assert_eq!(rt; lines.insert(FIRST, 0, 7), Ok(()));
-    assert_eq!(rt; lines.insert(FIRST, 1, 9), Ok(()));
-    assert_eq!(rt; lines.insert(FIRST, 1, 8), Ok(()));
-    assert_eq!(rt; lines.len(FIRST), 3);
-    assert_eq!(rt; lines.at(FIRST, 0), 7);
-    assert_eq!(rt; lines.at(FIRST, 1), 8);
-    assert_eq!(rt; lines.at(FIRST, 2), 9);
-    assert_eq!(rt; lines.neighbours(FIRST, 1), (Some(7), Some(9)));
-    assert_eq!(rt; lines.neighbours(FIRST, 0), (None, Some(8)));
+    assert!(rt; lines.insert(FIRST, 0, 7) == Ok(()));
+    assert!(rt; lines.insert(FIRST, 1, 9) == Ok(()));
+    assert!(rt; lines.insert(FIRST, 1, 8) == Ok(()));
+    assert!(rt; lines.len(FIRST) == 3);
+    assert!(rt; lines.at(FIRST, 0) == 7);
+    assert!(rt; lines.at(FIRST, 1) == 8);
+    assert!(rt; lines.at(FIRST, 2) == 9);
+    assert!(rt; lines.neighbours(FIRST, 1) == (Some(7), Some(9)));
+    assert!(rt; lines.neighbours(FIRST, 0) == (None, Some(8)));
     let mark = lines.mark();
-    assert_eq!(rt; lines.insert(FIRST, 0, 5), Ok(()));
+    assert!(rt; lines.insert(FIRST, 0, 5) == Ok(()));
     lines.undo_to(mark);
-    assert_eq!(rt; lines.len(FIRST), 3);
-    assert_eq!(rt; lines.at(FIRST, 0), 7);
+    assert!(rt; lines.len(FIRST) == 3);
+    assert!(rt; lines.at(FIRST, 0) == 7);
     drop(lines);
     Ok(())
 }
@@ -32,12 +32,12 @@ fn timelines_rows(rt: HostRuntime) -> Result<(), Fail> {
 #[test]
 fn full_over_both(rt: HostRuntime) -> Result<(), Fail> {
     let mut lines = Timelines::new(rt.alloc(), 2, 2, 1)?;
-    assert_eq!(rt; lines.insert(FIRST, 0, 7), Ok(()));
-    assert_eq!(rt; lines.insert(SECOND, 0, 8), Ok(()));
-    assert_eq!(rt; lines.insert(SECOND, 1, 9), Err(Full));
-    assert_eq!(rt; lines.spare_marks(), 1);
+    assert!(rt; lines.insert(FIRST, 0, 7) == Ok(()));
+    assert!(rt; lines.insert(SECOND, 0, 8) == Ok(()));
+    assert!(rt; lines.insert(SECOND, 1, 9) == Err(Full));
+    assert!(rt; lines.spare_marks() == 1);
     lines.clear();
-    assert_eq!(rt; lines.len(SECOND), 0);
+    assert!(rt; lines.len(SECOND) == 0);
     drop(lines);
     Ok(())
 }

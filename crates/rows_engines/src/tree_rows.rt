@@ -122,8 +122,8 @@ fn shown_on(alloc: Global, text: &str) -> Result<[Claim; 2], Fail> {
 #[test]
 fn answers_are_shown(rt: HostRuntime) -> Result<(), Fail> {
     let on_duo = shown_on(rt.alloc(), DUO)?;
-    assert_eq!(rt; on_duo, [Claim::Earliest(14), Claim::Earliest(17)]);
+    assert!(rt; on_duo == [Claim::Earliest(14), Claim::Earliest(17)]);
     let on_tail = shown_on(rt.alloc(), TAIL)?;
-    assert_eq!(rt; on_tail, [Claim::Never; 2]);
+    assert!(rt; on_tail == [Claim::Never; 2]);
     Ok(())
 }

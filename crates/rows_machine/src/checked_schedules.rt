@@ -18,7 +18,7 @@ use tp_schedule_check::{
 };
 
 /// What is told of a schedule: what clashes, or else what breaks floor or horizon at 0, or else what could stand earlier.
-#[derive(Clone, Copy, PartialEq, Eq, Debug)]
+#[derive(Clone, Copy, PartialEq, Eq)]
 enum FirstFault {
     Clash(Clash),
     Bound(PlanPoint),

@@ -31,7 +31,7 @@ fn line_ends_and_comments(rt: HostRuntime) -> Result<(), Fail> {
     }
     let noted = printed(rt.alloc(), text.as_str().as_bytes())?;
     let plain = printed(rt.alloc(), DUO.as_bytes())?;
-    assert_eq!(rt; noted.as_slice(), plain.as_slice());
+    assert!(rt; noted.as_slice() == plain.as_slice());
     Ok(())
 }
 
@@ -93,9 +93,6 @@ rt = "OUT"
 #[test]
 fn one_text_whole(rt: HostRuntime) -> Result<(), Fail> {
     let text = printed(rt.alloc(), crate::machines::TAIL.as_bytes())?;
-    assert_eq!(rt;
-        std::str::from_utf8(text.as_slice()).ok(),
-        Some(PRINTED_TAIL)
-    );
+    assert!(rt; std::str::from_utf8(text.as_slice()).ok() == Some(PRINTED_TAIL));
     Ok(())
 }

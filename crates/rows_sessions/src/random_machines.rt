@@ -293,7 +293,7 @@ fn schedules_of_random_machines(rt: HostRuntime) -> Result<(), Fail> {
     for number in 0..60 {
         compare(rt.alloc(), number, &mut apart, &mut close)?;
     }
-    assert_eq!(rt; apart.broken, 0);
+    assert!(rt; apart.broken == 0);
     assert!(rt; apart.plans > 2000 && apart.ticks > 90_000, "{apart:?}");
     // Without the gaps plans stand closer together and end earlier.
     assert!(rt; close.broken > 3000 && close.ends < apart.ends, "{close:?}");

@@ -213,7 +213,7 @@ fn no_sheet_goes_round_without_need(rt: HostRuntime) -> Result<(), Fail> {
           plan j1.1.1 t 3 feed 5 move 6 print 12 out 15\n\
           plan j1.2.1 t 6 feed 10 move 12 print 18 out 21\n\
           plan j1.3.1 t 12 feed 16 move 18 print 24 out 27\n";
-    assert_eq!(rt; log.as_slice(), wanted);
+    assert!(rt; log.as_slice() == wanted);
     Ok(())
 }
 
@@ -256,8 +256,8 @@ fn what_a_session_keeps(rt: HostRuntime) -> Result<(), Fail> {
                    release j1.1.1 2 print2 5 11\n\
                    release j1.1.1 3 out 11 14\n\
                    done j1.1.1 t 14\n";
-    assert_eq!(rt; kept, (1, 2, 1));
-    assert_eq!(rt; text.as_slice(), wanted.as_slice());
+    assert!(rt; kept == (1, 2, 1));
+    assert!(rt; text.as_slice() == wanted.as_slice());
     Ok(())
 }
 
@@ -333,7 +333,8 @@ fn probes(rt: HostRuntime) -> Result<(), Fail> {
     ];
     for (row, wanted) in rows {
         let (told, stays) = probe_of(rt.alloc(), row)?;
-        assert_eq!(rt; told, wanted);
+        let event = row.event;
+        assert!(rt; told == wanted, "{event:?}");
         assert!(rt; stays);
     }
     Ok(())

@@ -193,6 +193,6 @@ fn a_thousand_events(rt: HostRuntime) -> Result<(), Fail> {
     let machine = machine_of(rt.alloc(), DUO)?;
     let script = long_script(rt.alloc())?;
     let told = answered(rt.alloc(), &machine, script.as_bytes())?;
-    assert_eq!(rt; told, (598, 0));
+    assert!(rt; told == (598, 0));
     Ok(())
 }

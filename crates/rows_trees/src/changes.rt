@@ -26,7 +26,7 @@ enum TextChange {
 }
 
 /// How many trees are accepted, off the grammar, and of each flaw.
-#[derive(Clone, Copy, PartialEq, Eq, Debug)]
+#[derive(Clone, Copy, PartialEq, Eq)]
 struct FlawCounts {
     bound: u32,
     unread: u32,

@@ -132,12 +132,12 @@ fn made_trees_are_printed(rt: HostRuntime) -> Result<(), Fail> {
     let tray = name(b"t")?;
     let resource = name(b"rt")?;
     let text = text_of(rt.alloc(), tray, resource).ok().ok_or("memory")?;
-    assert_eq!(rt;
-        text.as_slice(),
-        b"b room t:F10 11\n\
+    assert!(rt;
+        text.as_slice()
+            == b"b room t:F10 11\n\
           b 0 goal t:F10 split\n\
           b 1 at rt 0 2 loop *0 rt:*/1>t.1.1/3 l:*0\n"
-            .as_slice()
+                .as_slice()
     );
     Ok(())
 }
@@ -146,7 +146,7 @@ fn made_trees_are_printed(rt: HostRuntime) -> Result<(), Fail> {
 fn rows_are_kept(rt: HostRuntime) -> Result<(), Fail> {
     let tray = name(b"t")?;
     let rows = rows_of(rt.alloc(), tray).ok().ok_or("memory")?;
-    assert_eq!(rt; last_room(&rows), 11);
+    assert!(rt; last_room(&rows) == 11);
     Ok(())
 }
 
@@ -156,7 +156,7 @@ fn nodes_are_kept(rt: HostRuntime) -> Result<(), Fail> {
     let nodes = nodes_of(rt.alloc(), goal_node(tray), goal_node(tray))
         .ok()
         .ok_or("memory")?;
-    assert_eq!(rt; last_depth(&nodes), 0);
+    assert!(rt; last_depth(&nodes) == 0);
     Ok(())
 }
 
