@@ -58,10 +58,10 @@ module _ (files : Files) (name text : List ℕ) (there : IsThere files name text
 module _ (words : List (List ℕ)) (files : Files) (script : List ℕ) (asked : Asked) (good : IsRunInOrder words files script asked) where
   answered : (s : Status) → IsTrue (is_refusal s) → (left taken taken' : Option (List ℕ)) → ¬ RanBy (Some files) asked (Some script) left taken taken' s
   answered (status.TooLong (size.Line n)) is left taken taken' ran =
-      let (read, (after, whole, rest_left), to) = ran.did in
+      let (read, (after, whole, rest_left), to, promises) = ran.did in
       not_too_long 4096 script read to.done to.rest after good.lines_fit whole to.parts to.whole to.stops.0
   answered (status.TooLong size.Lines) is left taken taken' ran =
-      let (read, (after, whole, rest_left), to) = ran.did in
+      let (read, (after, whole, rest_left), to, promises) = ran.did in
       not_too_many 1000000 script read to.done to.rest after good.few whole to.parts to.whole to.stops.0 (next-some 4096 (Some script) left to.rest to.stops.1)
   answered status.Done is left taken taken' ran = absurd cc
   answered status.Memory is left taken taken' ran = absurd cc

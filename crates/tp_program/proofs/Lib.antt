@@ -2,12 +2,14 @@ mod FarmFacts
 mod AskedFacts
 mod CheckFacts
 mod ChecksInOrderFacts
+mod CompleteFacts
 mod ComposeFacts
 mod FarmingFacts
 mod FarmsInOrderFacts
 mod InOrderFacts
 mod JoiningFacts
 mod LogSizes
+mod PromisedFacts
 mod ResumesInOrderFacts
 mod RunFacts
 mod SavingFacts

@@ -17,3 +17,4 @@ pub mod InOrder
 pub mod FarmsInOrder
 pub mod ChecksInOrder
 pub mod ResumesInOrder
+pub mod Complete

@@ -10,6 +10,7 @@ use Rattle.tp_stream.specs.declared.stop.Stop.{Stop}
 use Rattle.tp_stream.specs.declared.stop.Stop.TheVariants as stop
 use Rattle.tp_event_rules.specs.States.{SessionState, empty_state}
 use Rattle.tp_run_laws.specs.Ends.{IsAnswered, IsAnsweredTo}
+use Rattle.tp_run_laws.specs.Promised.{KeepsPromises}
 use Rattle.tp_program.specs.Texts.{IsLongText, IsShelved}
 use Rattle.tp_program.specs.declared.status.Long.TheVariants.{MachineText, Line, Lines}
 use Rattle.tp_program.specs.declared.status.Status.{Status}
@@ -49,6 +50,23 @@ module _ (machine : Machine) (budget : ℕ) (bounds : Bool) (start : SessionStat
   abbrev pub EndsOn : Status → Type 0
   EndsOn status = EndsBy (DoneOn × IsAtEnd left left') StopsOn status
 
+-- so from the empty state on, and the log keeps the promises: no resource is held twice, each tray receives its line in order, each plan
+-- is earliest and least, each none and each budget means what it says, and with bounds trees prove plans and nones
+module _ (machine : Machine) (budget : ℕ) (bounds : Bool) (left left' taken taken' : Option (List ℕ)) where
+  abbrev pub DonePromised : Type 0
+  DonePromised = (script : List ℕ) × IsReadFrom left script left'
+      × (answered : IsAnswered machine budget bounds empty_state script taken taken')
+      × KeepsPromises machine budget bounds answered.run.log answered.run.last
+
+  abbrev pub StopsPromised : Stop → Type 0
+  StopsPromised cause = (script : List ℕ) × IsReadFrom left script left'
+      × (answered : IsAnsweredTo machine budget bounds empty_state cause script left left' taken taken')
+      × KeepsPromises machine budget bounds answered.run.log answered.run.last
+
+  -- how a run ends that has begun, with what its log promises
+  abbrev pub EndsPromised : Status → Type 0
+  EndsPromised status = EndsBy (DonePromised × IsAtEnd left left') StopsPromised status
+
 -- the name is that of a machine's text, and the run on it with the budget of the words, or else the machine's, and with
 -- bounds where the words ask for them, did this
 pub record RunsOn (told : Option Files) (asked : Asked) (Did : Machine → ℕ → Bool → Type 0) : Type 0 where
@@ -58,7 +76,7 @@ pub record RunsOn (told : Option Files) (asked : Asked) (Did : Machine → ℕ �
 
 abbrev pub RanBy : Option Files → Asked → Option (List ℕ) → Option (List ℕ) → Option (List ℕ) → Option (List ℕ) → Status → Type 0
 RanBy told asked left left' taken taken' status =
-    RunsOn told asked (λ machine budget bounds. EndsOn machine budget bounds empty_state left left' taken taken' status)
+    RunsOn told asked (λ machine budget bounds. EndsPromised machine budget bounds left left' taken taken' status)
 
 -- how a run ends: there is no machine, and nothing is read or written; or it ran
 module _ {S K : Type 0} (left : S → Option (List ℕ)) (taken : K → Option (List ℕ)) (told : Option Files) (source source' : S) (sink sink' : K) where

@@ -6,6 +6,7 @@ ghost use Rattle.tp_command.specs.Form.{form, seed_in};
 ghost use Rattle.tp_command.specs.declared.request.Mode.TheVariants.{Run, Save, Resume, Check, Soak, Compose, Farm};
 ghost use Rattle.tp_outside.specs.Outside.{Rises};
 ghost use Rattle.tp_program.specs.Checks.{CheckEnds};
+ghost use Rattle.tp_program.specs.Complete.{AnswersInOrder};
 ghost use Rattle.tp_program.specs.ComposeEnds.{ComposeEnds};
 ghost use Rattle.tp_program.specs.FarmEnds.{FarmEnds};
 ghost use Rattle.tp_program.specs.Modes.{Ends};
@@ -26,6 +27,7 @@ use crate::soak_mode::soak_to;
 use std::alloc::Global;
 use tp_command::{Mode, Request, WordsFault, read_request};
 use tp_outside::{Shelf, Sink, Source};
+use tp_snapshot::snapshots_are_read_back;
 
 /// Does what is asked for, each mode by its own function.
 fn answer<H: Shelf, S: Source, K: Sink>(
@@ -74,7 +76,9 @@ pub fn printer_main<H: Shelf, S: Source, K: Sink>(
         ⊎ ((result ≡ Status.Memory) × (source.new ≡ source.old) × (sink.new ≡ sink.old)) }
 
     // What each status says of a run: with `Done` the source was read to its end, and the sink took the text of the log that
-    // answers the script's events by a lawful run on the machine; with any other that text for the first lines, up to the cause.
+    // answers the script's events by a lawful run on the machine; with any other that text for the first lines, up to the cause. In both
+    // cases the log keeps the promises: no resource is held twice, each tray receives its line in order, each plan is earliest and
+    // least, each none and each budget means what it says, and with bounds trees prove plans and nones.
     ensures run { Asks Run (map string_bytes words.now)
         (λ asked. RunEnds S.left K.taken (H.known shelf.old) source.old source.new sink.old sink.new
         asked result) }
@@ -125,7 +129,16 @@ pub fn printer_main<H: Shelf, S: Source, K: Sink>(
     ensures source { result ≡ Status.Source
         → Rises (S.faults source.old) (S.faults source.new) }
     ensures sink { result ≡ Status.Sink → Rises (K.faults sink.old) (K.faults sink.new) }
+
+    // Nothing else is left open: if the outside did not fail in this call, and the words, the texts that they name and the input are in
+    // order, all was done, or memory ran out; or a log was refused.
+    ensures complete { ¬ Rises (H.faults shelf.old) (H.faults shelf.new)
+        → ¬ Rises (S.faults source.old) (S.faults source.new)
+        → ¬ Rises (K.faults sink.old) (K.faults sink.new)
+        → AnswersInOrder (map string_bytes words.now) (H.known shelf.old) (S.left source.old)
+        result }
 {
+    snapshots_are_read_back();
     match read_request(alloc, words) {
         Ok(request) => answer(alloc, &request, shelf, source, sink),
         Err(WordsFault::Memory) => Status::Memory,

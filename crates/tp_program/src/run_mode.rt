@@ -11,6 +11,7 @@ use crate::session::{Beginning, run_on};
 use std::alloc::Global;
 use tp_command::Request;
 use tp_outside::{Shelf, Sink, Source};
+use tp_run_laws::runs_keep_promises;
 use tp_session::Settings;
 
 /// Reads the machine text that is asked for, then the script line by line, and writes the log of each event before the next
@@ -43,6 +44,7 @@ pub(crate) fn run<H: Shelf, S: Source, K: Sink>(
                 },
                 from: None,
             };
+            runs_keep_promises();
             run_on(alloc, beginning, source, sink)
         }
         Err(status) => status,

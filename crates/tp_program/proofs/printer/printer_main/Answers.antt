@@ -4,6 +4,7 @@ use Rattle.std.specs.Prelude.{map, string_bytes}
 use Rattle.tp_command.specs.App.{seen}
 use Rattle.tp_command.specs.declared.request.Mode.TheVariants.{Run, Save, Resume, Check, Soak, Compose, Farm}
 use Rattle.tp_program.proofs.AskedFacts.{amiss_asked, asks_nothing, check_ends, compose_ends, farm_ends, resume_ends, run_ends, save_ends, soak_ends, usage, used}
+use Rattle.tp_program.proofs.CompleteFacts.{complete, complete-memory, complete-unformed}
 use Rattle.tp_program.proofs.SeedFacts.{gives_seed}
 use Rattle.tp_program.proofs.printer.printer_main.Goals as goal
 
@@ -87,3 +88,14 @@ returns-in-Err-Usage-clause-farm g c = asks_nothing Farm (map string_bytes c.arg
 
 pub returns-in-Err-Usage-clause-soak : goal.returns-in-Err-Usage-clause-soak
 returns-in-Err-Usage-clause-soak g c = asks_nothing Soak (map string_bytes c.args.words.now) _ (c.in-Err-Usage.ensures.usage c.in-Err-Usage.field-0-is)
+
+pub returns-in-Ok-clause-complete : goal.returns-in-Ok-clause-complete
+returns-in-Ok-clause-complete g c = λ shelf source sink.
+    complete g.S.Source.left g.K.Sink.taken (map string_bytes c.args.words.now) (seen c.in-Ok.request) c.in-Ok.ensures.ok _ _ _ _ _ _ c.snapshots_are_read_back.ensures.verdict c.answer.ensures.ends
+    (λ is. shelf (c.answer.ensures.shelf is)) (λ is. source (c.answer.ensures.source is)) (λ is. sink (c.answer.ensures.sink is))
+
+pub returns-in-Err-Memory-clause-complete : goal.returns-in-Err-Memory-clause-complete
+returns-in-Err-Memory-clause-complete g c = λ shelf source sink. complete-memory (map string_bytes c.args.words.now) _ _
+
+pub returns-in-Err-Usage-clause-complete : goal.returns-in-Err-Usage-clause-complete
+returns-in-Err-Usage-clause-complete g c = λ shelf source sink. complete-unformed (map string_bytes c.args.words.now) _ _ _ (c.in-Err-Usage.ensures.usage c.in-Err-Usage.field-0-is)
