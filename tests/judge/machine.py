@@ -90,7 +90,7 @@ class Machine:
 
     def gap(self, before, after):
         """The ticks that must lie between two holds of one resource, the first before the second."""
-        return self.gaps.get(before.resource, 0) if before.mode != after.mode else 0
+        return self.gaps[before.resource] if before.mode != after.mode else 0
 
 
 def step(action, sheet, state):
@@ -146,7 +146,7 @@ def machine_of(table):
         table["locations"], table["modules"], table["trays"], table.get("purge", []),
         dict(sorted(table["feeders"].items())), resources,
         [action_of(item, resources) for item in table["actions"]],
-        table.get("gaps", {}), table.get("stock", {}),
+        {it: table.get("gaps", {}).get(it, 0) for it in resources}, table.get("stock", {}),
     )
 
 

@@ -75,7 +75,7 @@ def is_live(machine, plan, now):
     """Whether a point, or the end of a hold with the gap behind it, is after the moment."""
     if plan.end > now:
         return True
-    return any(grip.end + machine.gaps.get(grip.hold.resource, 0) > now for grip in grips(plan))
+    return any(grip.end + machine.gaps[grip.hold.resource] > now for grip in grips(plan))
 
 
 def orders(machine, plans):
