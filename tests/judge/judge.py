@@ -1,6 +1,7 @@
 """Judges a log: replays it by the rules, and decides each answer in it."""
 from collections import Counter
 
+from budgets import flaw_of_budget
 from log import Fault, read_log
 from outage import Outage
 from schedule import Plan, flaw_of_schedule, least_points, orders
@@ -16,11 +17,13 @@ class Judge:
     """Replays a log on a machine.
 
     With `needs_trees` it judges as `check` does: each plan and none needs its tree, and nothing is
-    searched. Else it searches, and checks the trees that there are.
+    searched. Else it searches, and checks the trees that there are. `budget` is that of the run, if it
+    is not the machine's.
     """
 
-    def __init__(self, machine, needs_trees=False, work=WORK):
+    def __init__(self, machine, needs_trees=False, work=WORK, budget=None):
         self.machine, self.needs_trees, self.work = machine, needs_trees, work
+        self.budget = budget or machine.budget
         self.standing = Standing(machine)
         self.counts, self.decided, self.undecided = Counter(), Counter(), []
 
@@ -99,8 +102,18 @@ class Judge:
         self.check_search(ask, horizon, record)
 
     def judge_budget(self, ask, record):
-        if not self.needs_trees:
-            self.check_search(ask, int(record.words[3]) - 1, record)
+        if self.needs_trees:
+            return
+        tick = int(record.words[3])
+        self.check_search(ask, tick - 1, record)
+        try:
+            flaw = flaw_of_budget(self.machine, self.standing.listed(), ask, tick, self.budget, self.work)
+        except Undecided:
+            self.undecided.append(record.line)
+            return
+        if flaw:
+            raise Fault(record.line, flaw)
+        self.decided["tick of a budget"] += 1
 
     def judge_plan(self, ask, record):
         plan = self.planned(ask, record)

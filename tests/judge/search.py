@@ -80,61 +80,36 @@ def ticks_to_go(machine, ask, steps):
     return found
 
 
-class Search:
-    """A search for an ask beside the live plans, the front of a copy in flight among them."""
+class Trial:
+    """The constraints of the live plans, with points and edges of the asked plan that come and go again.
+
+    The front of a copy in flight is among the plans. `work` is how often edges may still be added.
+    """
 
     def __init__(self, machine, plans, ask, work):
-        self.machine, self.ask, self.work = machine, ask, work
-        self.steps = steps_from(machine, ask)
-        self.to_go = ticks_to_go(machine, ask, self.steps)
-        self.plans = plans
+        self.machine, self.plans, self.ask, self.work = machine, plans, ask, work
 
-    def find(self, limit):
-        """The end of some alternative that ends by the limit, or None if there is none."""
-        limit = min(limit, self.ask.now + self.machine.window)
-        self.limit = limit
-        starts = [it for it in self.ask.starts(self.machine) if it in self.to_go]
-        if not starts:
-            return None
-        self.set_up(limit)
-        times = self.net.least()
-        if times is None:
-            return None
-        for state in sorted(set(starts), key=self.to_go.get):
-            found = self.start(state, times)
-            if found is not None:
-                return found
-        return None
-
-    def set_up(self, limit):
-        """Loads the other plans, and a point for the end of the asked one with its place in its line."""
-        constraints = Constraints(self.machine, self.plans, self.ask.now, self.ask.copy)
-        self.constraints, self.net, self.orders = constraints, constraints.net, constraints.orders
+    def load(self, limit):
+        """Loads the other plans, and a point for the end of the asked one by a limit, with its place in its line."""
+        self.constraints = Constraints(self.machine, self.plans, self.ask.now, self.ask.copy)
+        self.net, self.orders = self.constraints.net, self.constraints.orders
         self.end = self.net.point(0, limit)
-        for plan in constraints.lines.get(self.ask.goal, []) if self.ask.goal is not None else []:
+        for plan in self.constraints.lines.get(self.ask.goal, []) if self.ask.goal is not None else []:
             if plan.copy < self.ask.copy:
-                self.net.edge(constraints.end_of(plan), self.end, 1)
+                self.net.edge(self.constraints.end_of(plan), self.end, 1)
             else:
-                self.net.edge(self.end, constraints.end_of(plan), 1)
+                self.net.edge(self.end, self.constraints.end_of(plan), 1)
 
-    def start(self, state, times):
-        floor, kept = self.ask.floor(self.machine), self.ask.kept()
-        if kept:
-            return self.extend(state, kept, times)
-        if floor + self.to_go[state] > self.limit:
-            return None
-        return self.with_point(0, state, [*times, floor], [], lambda raised: self.extend(state, 0, raised))
+    def with_point(self, at, bounds, times, edges, further):
+        """Adds the point `at` of the asked plan and edges, goes on, and takes them away again.
 
-    def with_point(self, at, state, times, edges, further):
-        """Adds the point `at` of the asked plan, at which the sheet comes to a state, goes on, and takes it away again.
-
-        The last of the times is the point's, and the edges are those of the action that ends there.
+        The last of the times is the point's.
         """
-        point = self.net.point(times[-1], self.limit - self.to_go[state])
+        point = self.net.point(*bounds)
         self.constraints.places[self.ask.copy, at] = point
         found = None
-        if times[-1] <= self.net.cap[point]:
-            found = self.with_edges([*edges, (point, self.end, self.to_go[state])], times, further)
+        if bounds[0] <= bounds[1]:
+            found = self.with_edges(edges, times, further)
         del self.constraints.places[self.ask.copy, at]
         for column in (self.net.low, self.net.cap, self.net.edges):
             column.pop()
@@ -155,6 +130,64 @@ class Search:
             self.net.edges[before].pop()
         return found
 
+    def with_places(self, grips, times, further):
+        """Tries all places of the first of these holds, from the last place on, then of the others."""
+        if not grips:
+            return further(times)
+        grip, order = grips[0], self.orders[grips[0].hold.resource]
+        for at in range(len(order), -1, -1):
+            if at < len(order) and not self.may_precede(grip, order[at], times):
+                return None
+            edges = [self.constraints.edge_between(order[at - 1], grip)] if at else []
+            edges += [self.constraints.edge_between(grip, order[at])] if at < len(order) else []
+            order.insert(at, grip)
+            found = self.with_edges(edges, times, lambda raised: self.with_places(grips[1:], raised, further))
+            order.pop(at)
+            if found is not None:
+                return found
+        return None
+
+    def may_precede(self, grip, other, times):
+        """Whether times are left with the hold before the other one. If not, it precedes no earlier one either."""
+        return self.with_edges([self.constraints.edge_between(grip, other)], times, lambda raised: True) is not None
+
+
+class Search(Trial):
+    """A search for a plan that answers an ask."""
+
+    def __init__(self, machine, plans, ask, work):
+        super().__init__(machine, plans, ask, work)
+        self.steps = steps_from(machine, ask)
+        self.to_go = ticks_to_go(machine, ask, self.steps)
+
+    def find(self, limit):
+        """The end of some alternative that ends by the limit, or None if there is none."""
+        limit = min(limit, self.ask.now + self.machine.window)
+        self.limit = limit
+        starts = [it for it in self.ask.starts(self.machine) if it in self.to_go]
+        if not starts:
+            return None
+        self.load(limit)
+        times = self.net.least()
+        if times is None:
+            return None
+        for state in sorted(set(starts), key=self.to_go.get):
+            found = self.start(state, times)
+            if found is not None:
+                return found
+        return None
+
+    def start(self, state, times):
+        floor, kept = self.ask.floor(self.machine), self.ask.kept()
+        if kept:
+            return self.extend(state, kept, times)
+        edges = [(len(times), self.end, self.to_go[state])]
+        return self.with_point(0, self.bounds(state, floor), [*times, floor], edges, lambda raised: self.extend(state, 0, raised))
+
+    def bounds(self, state, low):
+        """The least and the greatest tick at which the sheet may be in a state."""
+        return low, self.limit - self.to_go[state]
+
     def extend(self, state, count, times):
         """Goes on from a state behind `count` actions."""
         if is_goal(self.machine, self.ask.sheet, self.ask.goal, state):
@@ -171,34 +204,14 @@ class Search:
 
     def act(self, action, after, count, times):
         before, point = self.constraints.places[self.ask.copy, count], len(times)
-        edges = [(before, point, action.least), (point, before, -action.most)]
+        edges = [(before, point, action.least), (point, before, -action.most), (point, self.end, self.to_go[after])]
         grips = [Grip(0, 0, self.ask.copy, count, hold) for hold in action.holds]
 
         def further(raised):
-            return self.place(grips, raised, lambda placed: self.extend(after, count + 1, placed))
+            return self.with_places(grips, raised, lambda placed: self.extend(after, count + 1, placed))
 
-        return self.with_point(count + 1, after, [*times, times[before] + action.least], edges, further)
-
-    def place(self, grips, times, further):
-        """Tries all places of the first of these holds, from the last place on, then of the others."""
-        if not grips:
-            return further(times)
-        grip, order = grips[0], self.orders[grips[0].hold.resource]
-        for at in range(len(order), -1, -1):
-            if at < len(order) and not self.may_precede(grip, order[at], times):
-                return None
-            edges = [self.constraints.edge_between(order[at - 1], grip)] if at else []
-            edges += [self.constraints.edge_between(grip, order[at])] if at < len(order) else []
-            order.insert(at, grip)
-            found = self.with_edges(edges, times, lambda raised: self.place(grips[1:], raised, further))
-            order.pop(at)
-            if found is not None:
-                return found
-        return None
-
-    def may_precede(self, grip, other, times):
-        """Whether times are left with the hold before the other one. If not, it precedes no earlier one either."""
-        return self.with_edges([self.constraints.edge_between(grip, other)], times, lambda raised: True) is not None
+        low = times[before] + action.least
+        return self.with_point(count + 1, self.bounds(after, low), [*times, low], edges, further)
 
 
 def least_end(machine, plans, ask, work):
