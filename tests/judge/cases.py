@@ -34,7 +34,7 @@ class Maker:
     def __init__(self, draw):
         self.draw = draw
         self.table = {
-            "format": 2, "lead": draw.randrange(4), "window": draw.randrange(12, 60),
+            "format": 2, "lead": draw.randrange(4), "window": draw.choice([draw.randrange(12, 30), draw.randrange(20, 80)]),
             "budget": draw.choice([draw.randrange(1, 21), draw.randrange(1, 21), 20_000, 20_000]),
             "locations": [], "modules": [], "trays": [], "purge": [], "feeders": {}, "resources": {}, "actions": [],
         }
@@ -90,8 +90,10 @@ class Maker:
         """Trays behind a location, and perhaps a purge tray."""
         draw = self.draw
         for number in range(1, draw.choice([1, 1, 2]) + 1):
-            self.action(f"out{number}", source, f"t{number}", draw.randrange(1, 4))
+            self.action(f"out{number}", source, f"t{number}", draw.randrange(1, 8))
             self.table["trays"].append(f"t{number}")
+            if draw.random() < 0.4:
+                self.action(f"way{number}", source, f"t{number}", draw.randrange(1, 8))
         if draw.random() < 0.7:
             self.action("dump", source, "p1", draw.randrange(1, 4))
             self.table["purge"].append("p1")
@@ -149,10 +151,22 @@ class Maker:
         self.ends("c")
 
 
+    def twins(self):
+        """Ways of unlike lengths to one tray, on which sheets overtake one another."""
+        self.feeders("a")
+        self.table["trays"].append(self.place("t1"))
+        for number in range(1, self.draw.randrange(2, 4)):
+            self.action(f"way{number}", "a", "t1", self.draw.randrange(2, 10))
+            self.table["actions"][-1]["most"] += self.draw.choice([0, 8])
+        if self.draw.random() < 0.5:
+            self.action("dump", "a", self.place("p1"), self.draw.randrange(1, 4))
+            self.table["purge"].append("p1")
+
+
 def make_machine(draw):
     """The text of a small machine."""
     maker = Maker(draw)
-    draw.choice([maker.engines, maker.engines, maker.grid, maker.buffers])()
+    draw.choice([maker.engines, maker.engines, maker.grid, maker.buffers, maker.twins])()
     maker.gaps()
     return text_of(maker.table)
 
@@ -177,7 +191,7 @@ class Story:
 
     def group(self, wants):
         """A group of sheets that there is a way for, or now and then one for which there is none."""
-        count = self.draw.choice([1, 1, 2, 3])
+        count = self.draw.choice([1, 1, 2, 4])
         spec = self.draw.choice(wants) if wants and self.draw.random() < 0.93 else "".join(self.draw.choices("-MC", k=2)) + ":F"
         return spec if count == 1 else f"{count}*{spec}"
 
@@ -190,12 +204,12 @@ class Story:
         return Event("job", (f"j{self.jobs}", tray, medium, *groups))
 
     def clock(self):
-        self.now += self.draw.choices([0, 1, 2, 4, 9, 30, 200], [1, 4, 5, 5, 4, 2, 1])[0]
+        self.now += self.draw.choices([0, 1, 2, 4, 9, 30, 200], [1, 5, 6, 6, 4, 2, 1])[0]
         return Event("clock", (str(self.now),))
 
     def outage(self):
-        module = self.draw.choice(self.machine.modules)
-        verb = self.draw.choice(["jam", "jam", "off"])
+        module = self.draw.choice([it.module for it in self.machine.actions])
+        verb = self.draw.choice(["jam", "jam", "jam", "off"])
         self.out.append(module)
         return Event(verb, (module,))
 
@@ -217,10 +231,11 @@ class Story:
         made = [self.job()]
         while len(made) < count:
             kinds = [self.job, self.clock, self.outage, self.back, self.refill, self.refused]
-            made.append(self.draw.choices(kinds, [5, 9, 4, 4, 1, 1])[0]())
+            rest = 1 + 6 * len(self.out)
+            made.append(self.draw.choices(kinds, [4, 10, 4, rest, 1, 1])[0]())
         return made
 
 
 def make_events(draw, machine):
     """The events of a script for a machine."""
-    return Story(draw, machine).events(draw.randrange(4, 14))
+    return Story(draw, machine).events(draw.randrange(5, 18))

@@ -3,7 +3,7 @@ from judge import Judge
 from log import Fault, read_log
 from machine import Sheet
 from schedule import Copy
-from script import sheets_of
+from script import BAD, event_of, lines_of, sheets_of
 from search import Ask, Undecided, least_end
 from state import MOST_LIVE, Told
 
@@ -12,6 +12,20 @@ def part_of(data, number):
     """The lines of one machine, without its number."""
     mark = b"%d " % number
     return b"".join(line[len(mark):] for line in data.splitlines(keepends=True) if line.startswith(mark))
+
+
+def read_farm_script(data, count):
+    """The events of a farm's script of bytes, each with its machine if the line names one."""
+    return [addressed(words, count) for words in lines_of(data)]
+
+
+def addressed(words, count):
+    if words[0] != "at":
+        event = event_of(words)
+        return (event, None) if event.verb in ("job", "clock") else (BAD, None)
+    event = event_of(words[2:]) if len(words) > 2 else BAD
+    is_known = event.verb in ("jam", "off", "on", "refill") and words[1] in map(str, range(1, count + 1))
+    return (event, int(words[1])) if is_known else (BAD, None)
 
 
 class FarmJudge:
