@@ -1,4 +1,5 @@
 """Plans and schedules: what is legal, held and live, and least times by difference constraints."""
+import heapq
 from dataclasses import dataclass, replace
 from typing import NamedTuple
 
@@ -166,17 +167,23 @@ class Network:
         self.edges[before].append((after, weight))
 
     def raise_from(self, times, changed):
-        """Raises the times until the edges out of raised points are kept. False if a point passes its greatest tick."""
-        waiting = list(changed)
+        """Raises the times until the edges out of raised points are kept. False if a point passes its greatest tick.
+
+        Earlier points come first, since later ones mostly follow from them.
+        """
+        waiting = [(times[point], point) for point in changed]
+        heapq.heapify(waiting)
         while waiting:
-            point = waiting.pop()
+            time, point = heapq.heappop(waiting)
+            if time < times[point]:
+                continue
             for after, weight in self.edges[point]:
-                tick = times[point] + weight
+                tick = time + weight
                 if tick > times[after]:
                     if tick > self.cap[after]:
                         return False
                     times[after] = tick
-                    waiting.append(after)
+                    heapq.heappush(waiting, (tick, after))
         return True
 
     def least(self):
