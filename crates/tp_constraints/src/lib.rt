@@ -1,5 +1,5 @@
 //! A schedule as difference constraints: its rules, what each step of a board adds to them, and the network that keeps
-//! them. Each call does nothing: its contract is the law.
+//! them, also as the schedule grows and the clock moves. Each call does nothing: its contract is the law.
 #![tactic(auto)]
 
 ghost use Rattle.tp_constraints.specs.Hops.{ActionHops, GoalHops, LoadHops, PlaceHops, StopHops};

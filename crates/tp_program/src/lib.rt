@@ -1,4 +1,4 @@
-//! The program over its outside.
+//! The program over its outside, a file for each mode, and the law that a farm writes a lawful log of each machine.
 #![tactic(auto)]
 
 mod check_mode;

@@ -1,4 +1,4 @@
-//! A session: it takes events in turn, and appends the text of each.
+//! A session: it takes events in turn and appends the text of each, and why it stands where it is sound to go on from.
 #![tactic(auto)]
 
 mod job_probe;

@@ -1,4 +1,4 @@
-//! Input read line by line, each line answered and its answer written before the next line is handled.
+//! Input read line by line, each line answered by whoever answers events, and its answer written before the next line is handled.
 #![tactic(auto)]
 
 mod input_loop;
