@@ -1,6 +1,6 @@
-pub mod AskingFacts
-pub mod FlyingFacts
-pub mod LayingFacts
+pub mod AskFacts
+pub mod InFlightFacts
+pub mod LaidWays
 pub mod SearchFacts
-pub mod TellingFacts
-pub mod TryingFacts
+pub mod ReasonFacts
+pub mod TrialFacts

@@ -7,7 +7,7 @@ use Rattle.tp_schedule.specs.declared.parts.Origin.TheVariants.{Feeder as FromFe
 use Rattle.tp_schedule.specs.declared.parts.Plan.{Plan}
 use Rattle.tp_schedule.specs.declared.parts.Reply.{Reply}
 use Rattle.tp_schedule.specs.declared.parts.Reply.TheVariants.{Planned, Never, Spent}
-use Rattle.rows_engines.proofs.LayingFacts.{plan_on-after}
+use Rattle.rows_engines.proofs.LaidWays.{plan_on-after}
 
 -- a schedule on which a new copy was answered can be planned on
 pub plan_on-answered : (spent : Machine → List Plan → Ask → ℕ → Type 0) (machine : Machine) (ask : Ask) (plans plans' : List Plan) (reply : Reply) → ask.origin ≡ FromFeeder

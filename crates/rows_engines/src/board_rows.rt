@@ -99,7 +99,7 @@ fn choose<N: Network>(
     Ok((opened, placed, board.places(resource)))
 }
 
-/// The bound of the end on a way, of which the last action is told first, each with the room before it.
+/// The bound of the end on a way, given with its last action first, each with the room before it.
 fn bound_of<N: Network>(
     alloc: Global,
     board: &mut Board<N>,

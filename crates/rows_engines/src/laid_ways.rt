@@ -288,7 +288,7 @@ pub(crate) fn tried_at<N: Network>(
     }
 }
 
-/// Lays a way, of which the last choice is told first, from the goal on.
+/// Lays a way, given with its last choice first, from the goal on.
 pub(crate) fn lay<N: Network>(
     board: &mut Board<N>,
     rooms: &Rooms,

@@ -17,7 +17,7 @@ use tp_schedule_check::{
     find_misfit, find_parting, find_past_horizon, is_timed_plan,
 };
 
-/// What is told of a schedule: what clashes, or else what breaks floor or horizon at 0, or else what could stand earlier.
+/// The verdict on a schedule: what clashes, or else what breaks floor or horizon at 0, or else what could stand earlier.
 #[derive(Clone, Copy, PartialEq, Eq)]
 enum FirstFault {
     Clash(Clash),
@@ -56,7 +56,7 @@ fn told_of(alloc: Global, machine: &Machine, schedule: &Schedule) -> Result<Firs
     }
 }
 
-/// What prints the second sheet, the points of its plan, and what is told.
+/// What prints the second sheet, the points of its plan, and the verdict.
 type DecidingRow = (u16, (Tick, Tick, Tick, Tick), FirstFault);
 
 fn overlap(act: u32, free: i64, begin: i64) -> FirstFault {

@@ -20,7 +20,7 @@ fn name_of(text: &[u8]) -> Result<Name, Fail> {
     }
 }
 
-/// Sheets of plain media that want mono on the sides that are told.
+/// Sheets of plain media that want mono on these sides.
 pub(crate) fn sheet_of(front: Want, back: Want) -> Result<Sheet, Fail> {
     Ok(Sheet {
         media: name_of(b"plain")?,

@@ -1,4 +1,4 @@
-//! Moves of the clock on a schedule of one plan: what is told, and whether the plan stays.
+//! Moves of the clock on a schedule of one plan: the records, and whether the plan stays.
 ghost use Rattle.std.specs.Prelude.{◌≡◌, ◌≤◌, [], IfOk, OnOk};
 ghost use Rattle.tp_placing.specs.LoadedBoard.{IsMadeFor};
 ghost use Rattle.tp_schedule.specs.Answers.{KeepsFloors};
@@ -137,7 +137,7 @@ fn plan_on_board(
     planned
 }
 
-/// Moves the clock to the moments in turn, and gathers what is told.
+/// Moves the clock to the moments in turn, and gathers the records.
 fn told_in_turn(
     alloc: Global,
     machine: &Machine,
@@ -159,7 +159,7 @@ fn told_in_turn(
     Ok(told)
 }
 
-/// What is told as the clock moves to the moments in turn, and how many plans are then left.
+/// The records as the clock moves to the moments in turn, and how many plans are then left.
 fn told_until(
     alloc: Global,
     machine: &Machine,
@@ -197,7 +197,7 @@ fn done(loc: u16, at: Tick) -> Tell {
     }
 }
 
-/// What a clock is moved on: a machine text, and what the first sheet's front wants. Then what is told in all, and as the clock moves
+/// What a clock is moved on: a machine text, and what the first sheet's front wants. Then all records, and those as the clock moves
 /// to moments in turn how much of it, and how many plans are left.
 #[derive(Clone, Copy)]
 struct Moved<'a> {

@@ -108,7 +108,7 @@ fn told(alloc: Global, answer: &Result<u32, JobFault>) -> Result<Vec<u8>, Fail> 
     Ok(out)
 }
 
-/// What is told of the second job, where none has come.
+/// The answer for the second job, if none has come.
 fn second_told(
     alloc: Global,
     machine: &Machine,

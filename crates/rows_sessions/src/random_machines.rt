@@ -176,7 +176,7 @@ impl Dice {
     }
 }
 
-/// The text of the machine of this number, with what is told of its gaps.
+/// The text of the machine of this number, with its gaps in this form.
 fn text_of(alloc: Global, number: u64, gaps: &str) -> Result<Vec<u8>, Fail> {
     let mut dice = Dice::new(number);
     let mut text = Vec::new(alloc);
@@ -244,7 +244,7 @@ impl AnswersSeen {
         Ok(())
     }
 
-    /// Runs a session on the machine of this number, with what is told of its gaps, and looks at it as the other machine
+    /// Runs a session on the machine of this number, with its gaps in this form, and looks at it as the other machine
     /// has it.
     fn run(
         &mut self,

@@ -95,7 +95,7 @@ impl StocksSeen {
         }
     }
 
-    /// An event that would refill so many sheets was taken, and this is what was told of it.
+    /// An event that would refill so many sheets was taken, and these are its records.
     fn read(
         &mut self,
         alloc: Global,

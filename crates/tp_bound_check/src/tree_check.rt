@@ -114,7 +114,7 @@ fn check_tree(
 }
 
 /// Checks that a tree shows what is claimed of an ask on a schedule: on its live part, with the
-/// front of an asked copy in flight. The first flaw is told, rows before nodes. Memory may be
+/// front of an asked copy in flight. It returns the first flaw, rows before nodes. Memory may be
 /// wanted in place of any answer.
 pub fn check_bound(
     alloc: Global,

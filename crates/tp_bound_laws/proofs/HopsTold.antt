@@ -10,8 +10,8 @@ use Rattle.tp_constraints.specs.Suffixes.{order_in}
 use Rattle.tp_constraints.proofs.Lists.{contains-get}
 use Rattle.tp_bound_laws.specs.Told.{HopsAreTold, hold_name, resource_hop}
 use Rattle.tp_bound_laws.proofs.AllowedHops.{named-point}
-use Rattle.tp_bound_laws.proofs.AllowingHolds.{IsNamedHold, named-holds}
-use Rattle.tp_bound_laws.proofs.AllowingLines.{end-told, more-points, run-known}
+use Rattle.tp_bound_laws.proofs.AllowedOrderHops.{IsNamedHold, named-holds}
+use Rattle.tp_bound_laws.proofs.AllowedLineHops.{end-told, more-points, run-known}
 
 -- there is an element at each place of a list
 at-place : {X : Type 0} (xs : List X) (i : ℕ) → i < length xs → (x : X) × (slice_get xs i ≡ Some x)

@@ -17,8 +17,8 @@ pub mod LiveTrees
 pub mod Flawless
 pub mod ApartStarts
 pub mod AllowedHops
-pub mod AllowingHolds
-pub mod AllowingLines
+pub mod AllowedOrderHops
+pub mod AllowedLineHops
 pub mod HopsTold
-pub mod AllowingSpans
+pub mod SideReasons
 pub mod ShortLines

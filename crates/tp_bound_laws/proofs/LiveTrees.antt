@@ -12,7 +12,7 @@ use Rattle.tp_schedule.specs.declared.parts.Origin.{Origin}
 use Rattle.tp_schedule.specs.declared.parts.Origin.TheVariants.{Feeder as FromFeeder, Front as FromFront}
 use Rattle.tp_schedule.specs.declared.parts.Plan.{Plan}
 use Rattle.tp_schedule.specs.declared.parts.SheetId.{SheetId}
-use Rattle.tp_choices.proofs.StayingPlans.{legal-staying, plan_of-staying, staying}
+use Rattle.tp_choices.proofs.PlansLeft.{legal-staying, plan_of-staying, staying}
 use Rattle.std.proofs.Common.{[], ◌∷◌}
 use Rattle.tp_schedule.proofs.Membership.{Contains-here, Contains-later}
 use Rattle.tp_schedule.proofs.CopyFacts.{plan_of-itself}

@@ -24,7 +24,7 @@ pub fn flawless_trees_are_bound()
     ensures { FlawlessIsBound }
 {}
 
-/// Each hop of a board's reason but a stop and a limit is told in a tree, is allowed there, and says
+/// Each hop of a board's reason but a stop and a limit has a name in a tree, is allowed there, and says
 /// the same.
 pub fn reasons_are_allowed_hops()
     ensures told { HopsAreTold }

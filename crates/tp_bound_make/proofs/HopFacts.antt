@@ -21,7 +21,7 @@ use Rattle.tp_placing.specs.Causes.{IsNamedHop, hop_by, named_point, numbered, s
 use Rattle.tp_placing.specs.declared.causes.EdgeCause.{EdgeCause}
 use Rattle.tp_bound_laws.specs.Places.{Branch}
 use Rattle.tp_bound_laws.specs.Told.{CanBeTold}
-use Rattle.tp_bound_laws.proofs.AllowingLines.{hops_allowed}
+use Rattle.tp_bound_laws.proofs.AllowedLineHops.{hops_allowed}
 use Rattle.tp_bound_laws.proofs.HopsTold.{hops_told}
 use Rattle.tp_bound_make.specs.TellableReasons.{CanTell, IsTellable, IsTold, tell}
 use Rattle.tp_bound_make.proofs.FollowedEdges.{IsAllowed}

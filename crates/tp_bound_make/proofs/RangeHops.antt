@@ -34,7 +34,7 @@ use Rattle.tp_bound_laws.specs.Chains.{act_in, choice_act, duration_gap, follow,
 use Rattle.tp_bound_laws.specs.Chains.Led.{led}
 use Rattle.tp_bound_laws.specs.Places.{Stand}
 use Rattle.tp_bound_laws.proofs.AllowedHops.{gap-found}
-use Rattle.tp_bound_laws.proofs.AllowingSpans.{from-found, from-none, insert-at, into-found, into-none}
+use Rattle.tp_bound_laws.proofs.SideReasons.{from-found, from-none, insert-at, into-found, into-none}
 use Rattle.tp_bound_laws.proofs.ApartStarts.{Apart, starts-apart}
 use Rattle.tp_bound_laws.proofs.Lists.{number-same}
 use Rattle.tp_bound_make.specs.Ranges.{is_own_hold, leads}

@@ -21,15 +21,15 @@ abbrev pub most_log : ℕ
 most_log = 1073741824
 
 -- a machine text of at most 1,048,576 bytes of which P holds; it is the one of this name, where the shelf tells it
-pub record IsShelved (told : Option Files) (name : List ℕ) (P : List ℕ → Type 0) : Type 0 where
+pub record IsShelved (known : Option Files) (name : List ℕ) (P : List ℕ → Type 0) : Type 0 where
   pub text : List ℕ
-  pub is_told : IfSome told (λ files. file_at files name ≡ Some text)
+  pub is_known : IfSome known (λ files. file_at files name ≡ Some text)
   pub fits : length text ≤ most_text
   pub has : P text
 
 -- the text of this name has more bytes
 abbrev pub IsLongText : Option Files → List ℕ → Type 0
-IsLongText told name = IfSome told (λ files. IsSomeAnd (file_at files name) (λ text. most_text < length text))
+IsLongText known name = IfSome known (λ files. IsSomeAnd (file_at files name) (λ text. most_text < length text))
 
 -- the source gave a log, and the sink took a picture: its bars are those of the log's schedule on the machine, at the moment
 pub record Shows (machine : Machine) (by_copies : Bool) (until : Option ℕ) (left taken taken' : Option (List ℕ)) : Type 0 where
@@ -40,22 +40,22 @@ pub record Shows (machine : Machine) (by_copies : Bool) (until : Option ℕ) (le
   pub draws : Draws (bars_from by_copies machine 0 (sight_of machine until items).courses) text
   pub written : IfSome taken (λ before. taken' ≡ Some (before ++ text))
 
-module _ (words : List (List ℕ)) (told : Option Files) where
+module _ (words : List (List ℕ)) (known : Option Files) where
   -- the words name a text of which P holds
   pub record NamesText (P : List ℕ → Type 0) : Type 0 where
     pub asked : Asked
     pub named : chart_asked words ≡ Some asked
-    pub text : IsShelved told asked.machine P
+    pub text : IsShelved known asked.machine P
 
   abbrev pub NamesLongText : Type 0
-  NamesLongText = IsSomeAnd (chart_asked words) (λ asked. IsLongText told asked.machine)
+  NamesLongText = IsSomeAnd (chart_asked words) (λ asked. IsLongText known asked.machine)
 
   -- the words name the text of a machine, and the picture that they ask for was written
   pub record IsCharted (left taken taken' : Option (List ℕ)) : Type 0 where
     pub asked : Asked
     pub named : chart_asked words ≡ Some asked
     pub machine : Machine
-    pub text : IsShelved told asked.machine (λ text. IsMachineText text machine)
+    pub text : IsShelved known asked.machine (λ text. IsMachineText text machine)
     pub shows : Shows machine asked.by_copies asked.until left taken taken'
 
 -- the machine text can't be read, or is none

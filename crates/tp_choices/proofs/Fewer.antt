@@ -11,7 +11,7 @@ use Rattle.tp_schedule.proofs.Membership.{Contains-filter_from}
 use Rattle.tp_choices.specs.LiveParts.{LessAnswers}
 use Rattle.tp_choices.proofs.Parts.{filter-swap}
 use Rattle.tp_choices.proofs.SameTicks.{order-staying}
-use Rattle.tp_choices.proofs.StayingPlans.{legal-staying, plan_of-staying, staying, stays, unmoved-staying, without-staying}
+use Rattle.tp_choices.proofs.PlansLeft.{legal-staying, plan_of-staying, staying, stays, unmoved-staying, without-staying}
 
 -- the plans that stay, but for their points and for one copy
 pub unmoved-without : (f : SheetId → Bool) (copy : SheetId) (plans new : List Plan) → map unmoved (without copy new) ≡ map unmoved (without copy plans)

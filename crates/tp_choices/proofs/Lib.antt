@@ -17,7 +17,7 @@ pub mod LeastAnswers
 pub mod RetimedSchedules
 pub mod SearchAncestors
 pub mod EachSlot
-pub mod StayingPlans
+pub mod PlansLeft
 pub mod Parts
 pub mod SameTicks
 pub mod PastFacts

@@ -15,7 +15,7 @@ use Rattle.tp_choices.specs.LiveParts.{less, only, MayForget, MayAskBeside, Live
 use Rattle.tp_choices.proofs.LiveOrders.{others_of, joined-legal, joined-orders}
 use Rattle.tp_choices.proofs.Parts.{parts-equal}
 use Rattle.tp_choices.proofs.PointFacts.{past-fixed, past-released}
-use Rattle.tp_choices.proofs.StayingPlans.{staying, plan_of-staying, without-staying, unmoved-staying}
+use Rattle.tp_choices.proofs.PlansLeft.{staying, plan_of-staying, without-staying, unmoved-staying}
 use Rattle.tp_choices.proofs.LiveJoins.{planned, acts-are, joins}
 
 module _ (machine : Machine) (plans new : List Plan) (ask : Ask) (gone : SheetId → Bool) (f : MayForget machine ask.now plans gone) (b : MayAskBeside machine plans ask gone)

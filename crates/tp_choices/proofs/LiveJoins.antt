@@ -27,7 +27,7 @@ use Rattle.tp_choices.proofs.OwnSlots.{slots_from-append}
 use Rattle.tp_choices.proofs.PlansOf.{plan_of-contains}
 use Rattle.tp_choices.proofs.PointFacts.{point-le, fixed-by, end-cases}
 use Rattle.tp_choices.proofs.PastFacts.{past_points}
-use Rattle.tp_choices.proofs.StayingPlans.{staying, on_copy, plan_of-staying}
+use Rattle.tp_choices.proofs.PlansLeft.{staying, on_copy, plan_of-staying}
 use Rattle.tp_choices.proofs.Unmoved.{ordered_pair, unmoved-found}
 use Rattle.tp_choices.proofs.Lists.{slice_get-left}
 

@@ -34,7 +34,7 @@ use Rattle.tp_choices.proofs.SamePlaces.{kept-sound, own-sound}
 use Rattle.tp_choices.proofs.SameTicks.{IsSameAt, begin-same, end-same, apart-same, in-slots}
 use Rattle.tp_choices.proofs.ShiftedLists.{acts-shifted, lasts-shifted, can_stop-as, apart-base, after-floor, keeping, are-own, keep-own_slots, ended-at, counted, live-order, own-lasts}
 use Rattle.tp_choices.proofs.ShiftedPlaces.{IsParted, IsEnded, BesideAt, placed-beside}
-use Rattle.tp_choices.proofs.StayingPlans.{legal-staying}
+use Rattle.tp_choices.proofs.PlansLeft.{legal-staying}
 use Rattle.tp_choices.proofs.TimedSlots.{All-slots, All-own_slots}
 
 -- ticks of kept points from one, and of own points from another

@@ -26,7 +26,7 @@ use Rattle.tp_choices.proofs.Lists.{filter-all}
 use Rattle.tp_choices.proofs.Parts.{AllPairs-by_part, AllPairs-both_parts, filter-swap, parts-equal}
 use Rattle.tp_choices.proofs.PastFacts.{HasPassed, past_slots}
 use Rattle.tp_choices.proofs.SameTicks.{IsSameAt, same-back, end-same, apart-same, both-apart-same, same-staying, in-slots, in-order, order-staying, sound-slots}
-use Rattle.tp_choices.proofs.StayingPlans.{staying, stays, slots-staying, ticks-staying}
+use Rattle.tp_choices.proofs.PlansLeft.{staying, stays, slots-staying, ticks-staying}
 use Rattle.tp_choices.proofs.TimedSlots.{All-slots}
 use Rattle.tp_choices.proofs.Unmoved.{ordered_pair}
 use Rattle.tp_schedule.proofs.HeldCount.{IsTimedBy}

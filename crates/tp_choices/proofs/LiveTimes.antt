@@ -21,7 +21,7 @@ use Rattle.tp_choices.proofs.LiveSlots.{slots-in, classify}
 use Rattle.tp_choices.proofs.Parts.{parts-equal}
 use Rattle.tp_choices.proofs.PointFacts.{point-le, fixed-by, past-fixed, past-released, end-cases}
 use Rattle.tp_choices.proofs.PastFacts.{past_points}
-use Rattle.tp_choices.proofs.StayingPlans.{plan_of-staying, ticks-staying, unmoved-staying}
+use Rattle.tp_choices.proofs.PlansLeft.{plan_of-staying, ticks-staying, unmoved-staying}
 use Rattle.tp_choices.proofs.Unmoved.{ordered_pair, unmoved-found}
 use Rattle.tp_choices.proofs.WholeAnswers.{whole_retimes}
 

@@ -17,7 +17,7 @@ use Rattle.tp_choices.proofs.Lists.{filter-all}
 use Rattle.tp_choices.proofs.LiveOrders.{others_of}
 use Rattle.tp_choices.proofs.LiveTimes.{live_retimes}
 use Rattle.tp_choices.proofs.Unmoved.{unmoved-found}
-use Rattle.tp_choices.proofs.StayingPlans.{ticks-staying, filter-none}
+use Rattle.tp_choices.proofs.PlansLeft.{ticks-staying, filter-none}
 
 -- the plans of the first list put into the second
 joined_of : List Plan → List Plan → List Plan

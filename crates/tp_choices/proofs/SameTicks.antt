@@ -17,7 +17,7 @@ use Rattle.tp_schedule.proofs.LegalOrders.{legal_apart, LastsBy-plans, sound_pla
 use Rattle.tp_schedule.proofs.Membership.{Contains-filter, Contains-filter_from}
 use Rattle.tp_schedule.proofs.Pairs.{AllPairs-each}
 use Rattle.tp_schedule.proofs.SlotOrder.{IsPermutation-by_begin, rising_unique}
-use Rattle.tp_choices.proofs.StayingPlans.{staying, stays, slots-staying, ticks-staying, legal-staying}
+use Rattle.tp_choices.proofs.PlansLeft.{staying, stays, slots-staying, ticks-staying, legal-staying}
 use Rattle.tp_choices.proofs.TimedSlots.{All-slots}
 
 -- the ticks agree on the points of the slot

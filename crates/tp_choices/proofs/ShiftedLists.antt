@@ -29,7 +29,7 @@ use Rattle.tp_choices.proofs.PointFacts.{past-fixed}
 use Rattle.tp_choices.proofs.SamePlaces.{kept-sound}
 use Rattle.tp_choices.proofs.SameTicks.{in-order, order-staying}
 use Rattle.tp_choices.proofs.ShiftedPlaces.{IsEnded, AreOwn}
-use Rattle.tp_choices.proofs.StayingPlans.{stays, on_copy}
+use Rattle.tp_choices.proofs.PlansLeft.{stays, on_copy}
 use Rattle.tp_choices.proofs.TimedSlots.{All-own_slots}
 
 pub acts-shifted : (machine : Machine) (counts : ℕ → ℕ) (choices : List Choice) → acts_of (map (shift_choice machine counts) choices) ≡ acts_of choices

@@ -16,7 +16,7 @@ use Rattle.tp_choices.proofs.Lists.{filter-all}
 use Rattle.tp_choices.proofs.LiveOrders.{others_of}
 use Rattle.tp_choices.proofs.PointFacts.{past-fixed, same-by_points, points-equal}
 use Rattle.tp_choices.proofs.SameTicks.{order-staying}
-use Rattle.tp_choices.proofs.StayingPlans.{staying, stays, unmoved-staying, legal-staying}
+use Rattle.tp_choices.proofs.PlansLeft.{staying, stays, unmoved-staying, legal-staying}
 
 -- where the copy goes anyway, it need not be left out
 pub without-gone : (f : SheetId → Bool) (copy : SheetId) (plans : List Plan) → f copy ≡ false → without copy (staying f plans) ≡ staying f plans

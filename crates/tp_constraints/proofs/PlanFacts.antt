@@ -25,7 +25,7 @@ use Rattle.tp_schedule.proofs.Pairs.{AllPairs-cons, AllPairs-head, AllPairs-nil,
 use Rattle.tp_schedule.proofs.SlotOrder.{AllPairs-from_row, IsPermutation-by_begin, IsRow-from_AllPairs}
 use Rattle.tp_choices.proofs.Lists.{AllPairs-across, filter-all}
 use Rattle.tp_choices.proofs.SameTicks.{order-staying}
-use Rattle.tp_choices.proofs.StayingPlans.{stays, staying}
+use Rattle.tp_choices.proofs.PlansLeft.{stays, staying}
 use Rattle.tp_constraints.specs.Laws.{IsLoadable, LoadedTimes}
 use Rattle.tp_constraints.proofs.Lists.{All-split}
 use Rattle.tp_constraints.specs.AddedPlan.{PlanOrder, with_plan}

@@ -1,4 +1,4 @@
-//! What is told of answers to asks and of points that moved.
+//! The records of answers to asks and of points that moved.
 
 ghost use Rattle.std.specs.Prelude.{◌≡◌, ◌<◌, ◌+◌, ◌^◌, ◌++◌, ◌∷◌, List, [], drop, map, All, IfOk, OnOk};
 ghost use Rattle.tp_schedule.specs.Answers.{kept_of};

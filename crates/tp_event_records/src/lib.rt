@@ -1,4 +1,4 @@
-//! What is told of answers to asks and of points that moved, and the names by which records call things.
+//! The records of answers to asks and of points that moved, and the names that records use.
 #![tactic(auto)]
 
 mod answer_records;

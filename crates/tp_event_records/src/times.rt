@@ -1,4 +1,4 @@
-//! The points of plans as they stand, noted in one list: beside them it can be told later which plans moved.
+//! The points of plans as they stand, noted in one list: a later schedule beside them shows which plans moved.
 
 ghost use Rattle.std.specs.Prelude.{◌≡◌, ◌<◌, ◌+◌, ◌++◌, ◌∷◌, [], length, sum_by, slice_get, Some, IfNone, IfOk, IfSome, OnOk};
 ghost use Rattle.tp_schedule.specs.Plans.{without};

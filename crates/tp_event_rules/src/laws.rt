@@ -23,7 +23,7 @@ pub fn loop_goes_on<P: Planner>()
         → LoopGoesOn (right_steps P.rules machine) machine }
 {}
 
-/// A refused event gives the one record of its cause, and state and planner stay. No other event is told refused.
+/// A refused event gives the one record of its cause, and state and planner stay. No other event gets that record.
 pub fn refused_events_change_nothing<P: Planner>()
     ensures nothing { (machine : Machine)
         → RefusedChangesNothing (right_steps P.rules machine) machine }

@@ -24,7 +24,7 @@ use Rattle.tp_choices.proofs.LiveOrders.{others_of}
 use Rattle.tp_choices.proofs.LiveSpent.{live_spends}
 use Rattle.tp_choices.proofs.FewLists.{live_has_few}
 use Rattle.tp_choices.proofs.LiveTimes.{whole_is_least}
-use Rattle.tp_choices.proofs.StayingPlans.{plan_of-staying, without-staying}
+use Rattle.tp_choices.proofs.PlansLeft.{plan_of-staying, without-staying}
 use Rattle.tp_event_rules.specs.AnswerRecords.{moves, told_of_planned, told_of_reply}
 use Rattle.tp_event_rules.proofs.AnsweredPlans.{other-from, unmoved-sheet}
 use Rattle.tp_event_turn.specs.LiveAnswers.{AnswersPassOn, CanAskLive, IsAnswerOnWhole, LiveAnswersHold, LiveBudgetsHold, SpentPassesOn, live_at, spent_of}

@@ -16,7 +16,7 @@ use Rattle.tp_schedule.specs.Plans.{end_of_plan, is_front, is_same_copy}
 use Rattle.tp_schedule.specs.declared.parts.Plan.{Plan}
 use Rattle.tp_schedule.specs.declared.parts.SheetId.{SheetId}
 use Rattle.tp_choices.proofs.PastFacts.{past_points}
-use Rattle.tp_choices.proofs.StayingPlans.{filter-none}
+use Rattle.tp_choices.proofs.PlansLeft.{filter-none}
 use Rattle.tp_event_rules.specs.Clock.{Told, by_moment, deliveries, releases, delivery, release_of, record_of, released_until, clock_move}
 use Rattle.tp_event_rules.specs.StateInvariants.{is_planned_among, live_part, live_plans, live_refills}
 use Rattle.tp_event_rules.specs.Moments.{is_due, release_until}

@@ -6,7 +6,7 @@ use Rattle.std.proofs.lemmas.List.Elements.{All-contains}
 use Rattle.std.proofs.lemmas.List.Folds.{Any-from_list_any}
 use Rattle.tp_machine.specs.declared.machine.Machine.{Machine}
 use Rattle.tp_choices.proofs.PointFacts.{point-le}
-use Rattle.tp_choices.proofs.StayingPlans.{plan_of-staying}
+use Rattle.tp_choices.proofs.PlansLeft.{plan_of-staying}
 use Rattle.tp_choices.specs.LiveParts.{less}
 use Rattle.tp_schedule.specs.Answers.{IsAlternative}
 use Rattle.tp_schedule.specs.LivePlans.{is_live}

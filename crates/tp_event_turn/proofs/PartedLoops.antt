@@ -4,7 +4,7 @@ use Rattle.std.proofs.Common.{◌≡◌, ℕ, ◌+◌, ◌<◌, ◌≤◌, Bool,
 use Rattle.std.proofs.lemmas.Bool.{not_from_false}
 use Rattle.tp_machine.specs.ModuleUse.{action_at}
 use Rattle.tp_machine.specs.declared.machine.Machine.{Machine}
-use Rattle.tp_choices.proofs.StayingPlans.{plan_of-staying}
+use Rattle.tp_choices.proofs.PlansLeft.{plan_of-staying}
 use Rattle.tp_choices.proofs.Unmoved.{ordered_pair}
 use Rattle.tp_choices.specs.LiveParts.{less}
 use Rattle.tp_schedule.specs.Answers.{KeepsFloors, acts_in, unmoved}

@@ -99,7 +99,7 @@ fn tell_moved_clock(
     Ok(())
 }
 
-/// The record of what is told by numbers.
+/// The record that these numbers mean.
 fn record_of(machine: &Machine, lines: &Lines, tell: Tell) -> Record
     requires known { IsKnownTell machine.now lines.now.jobs tell }
     ensures { result ≡ record_of machine.now lines.now.jobs tell }

@@ -1,4 +1,4 @@
-//! What is told of events that are refused.
+//! The records of events that are refused.
 
 ghost use Rattle.std.specs.Prelude.{◌≡◌, ◌++◌, ◌∷◌, [], IsSomeAnd, OnOk, IfErr};
 ghost use Rattle.tp_release.specs.Refused.{clock_cause};

@@ -1,4 +1,4 @@
-//! What holds of lawful logs, and in which order things are told. The calls do nothing: their contracts are the laws.
+//! What holds of lawful logs, and in which order records stand. The calls do nothing: their contracts are the laws.
 ghost use Rattle.std.specs.Prelude.{ℕ, List, []};
 ghost use Rattle.tp_machine.specs.declared.machine.Machine.{Machine};
 ghost use Rattle.tp_schedule.specs.declared.parts.Ask.{Ask};
@@ -69,7 +69,7 @@ pub fn clock_tells_in_order()
     ensures { ClockTellsInOrder }
 {}
 
-/// Where a job breaks, what befalls its copies is told in the order of copies.
+/// If a job breaks, the records of its copies stand in the order of copies.
 pub fn breaks_tell_in_order()
     ensures { BreaksTellInOrder }
 {}

@@ -1,5 +1,5 @@
 //! The headline, of every lawful log: no resource is held twice, each tray receives its line in order, and plans, nones and
-//! budgets mean what they say. And in which order things are told.
+//! budgets mean what they say. And in which order records stand.
 #![tactic(auto)]
 
 mod laws;

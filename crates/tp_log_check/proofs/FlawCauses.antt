@@ -1,11 +1,14 @@
 -- A flaw tells why the turn of the event that is under way is off or stops.
 use Rattle.std.proofs.Common.{◌≡◌, List, Option, Some, None, sym, subst}
-use Rattle.std.specs.Prelude.{IfSome, IsSome, MatchOption}
+use Rattle.std.specs.Prelude.{ℕ, ◌+◌, IfSome, IsSome, MatchOption, drop, take}
 use Rattle.tp_log_check.specs.declared.pending.Pending.{Pending}
 use Rattle.tp_log.specs.declared.item.Item.{Item}
+use Rattle.tp_log_planner.specs.declared.failure.Reason.{Reason}
+use Rattle.tp_log_planner.specs.declared.failure.Reason.TheVariants as reason
 use Rattle.tp_log_planner.specs.declared.failure.WrongItem.{WrongItem}
 use Rattle.tp_log_check.specs.CheckerState.{CheckerValue, underway}
-use Rattle.tp_log_check.specs.Causes.{AreItemsOf, HasCause, HasReasonUnder, IsDueOrStops, flaw_at}
+use Rattle.tp_log_check.specs.Heights.{heights}
+use Rattle.tp_log_check.specs.Causes.{AreItemsOf, HasCause, HasReasonUnder, IsDueOrStops, flaw_at, flaw_on, lines_to}
 use Rattle.tp_log_check.specs.declared.flaw.Flaw.{Flaw}
 use Rattle.tp_log_check.specs.declared.flaw.Flaw.TheVariants.{Memory, Text, Due, Illegal, NotLeast, Tree}
 
@@ -18,13 +21,20 @@ pub found-some : {A : Type 0} (P : Type 0) (Q : A → Type 0) (o : Option A) →
 found-some P Q None some to = absurd cc
 found-some P Q (Some a) some to = to a
 
+-- a flaw of an item is never that a line is off the grammar
+no-text : (n line place : ℕ) (reason : Reason) → Text n ≡ flaw_on line place reason → ⊥
+no-text n line place reason.Due is = absurd is
+no-text n line place (reason.Illegal first second) is = absurd is
+no-text n line place (reason.NotLeast given least) is = absurd is
+no-text n line place (reason.Tree flaw) is = absurd is
+
 module _ (c : CheckerValue) (p : Pending) (is : c.under ≡ Some (underway p)) (items : List Item) (are : AreItemsOf (underway p) items) (stop : WrongItem) where
   reason-under : (flaw : Flaw) → flaw ≡ flaw_at p.line items stop → IsDueOrStops c.machine c.state p.event items stop → HasReasonUnder c.machine c.state c.under flaw
   reason-under flaw told why = subst (λ u. HasReasonUnder c.machine c.state u flaw) (sym is) (record { items = items; are = are; stop = stop; why = why; told = told })
 
   pub caused : (flaw : Flaw) → flaw ≡ flaw_at p.line items stop → IsDueOrStops c.machine c.state p.event items stop → HasCause c flaw
   caused Memory told why = tt
-  caused (Text line) told why = tt
+  caused (Text n) told why = absurd (no-text n (p.line + 1 + heights (take stop.item items)) (p.line + 1 + heights (take stop.item items) + lines_to (drop stop.item items) stop.reason) stop.reason told)
   caused (Due line) told why = reason-under (Due line) told why
   caused (Illegal line first second) told why = reason-under (Illegal line first second) told why
   caused (NotLeast line given least) told why = reason-under (NotLeast line given least) told why

@@ -14,7 +14,7 @@ pub mod HeightFacts
 pub mod FlawCauses
 pub mod PartingFacts
 pub mod FedLines
-pub mod Beginning
+pub mod UnlawfulStarts
 pub mod FedInTurn
 pub mod StopCauses
 pub mod LogEnds

@@ -15,7 +15,7 @@ use Rattle.tp_log_check.specs.declared.rejection.Rejection.TheVariants.{Memory, 
 use Rattle.tp_log_check.specs.Ends.{EndsFor, IsAcceptedText, IsFlawedEnd, IsTakenBy, StopsFor, StopsFrom}
 use Rattle.tp_log_check.specs.Sizes.{KeepsSizes}
 use Rattle.tp_stream.specs.Takes.{IsAtEnd, IsReadFrom, ends_whole}
-use Rattle.tp_log_check.proofs.Beginning.{is-none}
+use Rattle.tp_log_check.proofs.UnlawfulStarts.{is-none}
 use Rattle.tp_log_check.proofs.FedLines.{ends-text, joined, joined_lines, joined_told}
 
 module _ (machine : Machine) (c : CheckerValue) (text : List ℕ) (is : c.machine ≡ machine) (h : IsTakenBy c text) (sizes : KeepsSizes text) where

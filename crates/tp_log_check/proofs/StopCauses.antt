@@ -15,7 +15,7 @@ use Rattle.tp_log_check.specs.Ends.{BeginsNone, IsCaused, StopsAt, StopsFor, Sto
 use Rattle.tp_log_check.specs.Sizes.{IsPastSizes, event_lines, events_in, line_bytes, most_lines}
 use Rattle.tp_log_check.specs.TakenLines.{Answers, IsFlawed, LogState, RefusesLine}
 use Rattle.tp_log_check.proofs.FedInTurn.{HasTakenText, IsAtStart, feeds-all, taken-text}
-use Rattle.tp_log_check.proofs.Beginning.{begins-none}
+use Rattle.tp_log_check.proofs.UnlawfulStarts.{begins-none}
 use Rattle.tp_log_check.proofs.FedLines.{few_lines}
 
 -- no line is refused without a text

@@ -1,10 +1,11 @@
 -- Why a flaw is told of the event that is under way, and on which line.
-use Rattle.std.specs.Prelude.{◌≡◌, ℕ, ◌+◌, min, nat_lt, ◌⊎◌, List, [], ◌∷◌, length, take, drop, Option, Some, None, if◌then◌else◌}
+use Rattle.std.specs.Prelude.{◌≡◌, ℕ, ◌+◌, ◌≤◌, min, nat_lt, ◌⊎◌, List, [], ◌∷◌, length, take, drop, Option, Some, None, if◌then◌else◌}
 use Rattle.tp_bounds.specs.declared.tree.BoundTree.{BoundTree}
 use Rattle.tp_log_check.specs.Heights.{heights}
 use Rattle.tp_log.specs.GatheredItems.{closed}
 use Rattle.tp_log.specs.declared.item.Item.{Item}
 use Rattle.tp_log.specs.declared.item.Item.TheVariants.{Event, Tree as TreeItem}
+use Rattle.tp_log_laws.specs.AcceptedEntries.{IsAccepted}
 use Rattle.tp_log_laws.specs.EntryTurns.{told_steps}
 use Rattle.tp_machine.specs.declared.machine.Machine.{Machine}
 use Rattle.tp_run_laws.specs.Proved.{records_in}
@@ -20,6 +21,7 @@ use Rattle.tp_event_rules.specs.States.{SessionState}
 use Rattle.tp_event_turn.specs.Events.{LiveTurn}
 use Rattle.tp_event_turn.specs.Stops.{LiveStop}
 use Rattle.tp_log_check.specs.CheckerState.{CheckerValue, Underway}
+use Rattle.tp_log_check.specs.EventEntry.{entry}
 use Rattle.tp_log_check.specs.FirstDifference.{IsOffAt, PartsAt, items_before}
 use Rattle.tp_log_check.specs.declared.flaw.Flaw.{Flaw}
 use Rattle.tp_log_check.specs.declared.flaw.Flaw.TheVariants.{Memory, Text, Due, Illegal, NotLeast, Tree}
@@ -118,8 +120,27 @@ abbrev pub HasReasonUnder : Machine → SessionState → Option Underway → Fla
 HasReasonUnder machine s None flaw = ⊥
 HasReasonUnder machine s (Some u) flaw = HasReason machine s u flaw
 
--- a flaw other than that a line is off the grammar is told only for such a reason of the event that is under way
+-- ---- no flaw so far
+
+-- the items tell a whole turn of the event, as a log that is lawful with bounds may, but for the causes of its budgets
+abbrev pub TellWholeTurn : Machine → SessionState → AnEvent → List Item → Type 0
+TellWholeTurn machine s event items = (after : SessionState) × IsAccepted machine s (entry event items) after
+
+-- this is wrong with them only behind the last of them
+abbrev pub IsBehind : List Item → WrongItem → Type 0
+IsBehind items stop = length items ≤ stop.item
+
+-- nothing is wrong with the items that are told so far: they tell a whole turn, or what is wrong stands behind them
+abbrev pub AreRightSoFar : Machine → SessionState → AnEvent → List Item → Type 0
+AreRightSoFar machine s event items = TellWholeTurn machine s event items ⊎ ((stop : WrongItem) × IsDueOrStops machine s event items stop × IsBehind items stop)
+
+-- of the event that is under way, if there is one, nothing is wrong with the items that are told so far
+abbrev pub IsRightUnder : Machine → SessionState → Option Underway → Type 0
+IsRightUnder machine s None = Unit {0}
+IsRightUnder machine s (Some u) = AreRightSoFar machine s u.event u.items
+
+-- that a line is off the grammar is told only if nothing is wrong before it; any other flaw, only for a reason of the event that is under way
 abbrev pub HasCause : CheckerValue → Flaw → Type 0
 HasCause c Memory = Unit {0}
-HasCause c (Text line) = Unit {0}
+HasCause c (Text line) = IsRightUnder c.machine c.state c.under
 HasCause c flaw = HasReasonUnder c.machine c.state c.under flaw

@@ -23,7 +23,7 @@ pub(crate) struct Checked {
     pub(crate) bytes: u64,
     /// Why the last line is refused.
     pub(crate) found: Option<Rejection>,
-    /// Whether that is still to be told.
+    /// Whether that is still to be reported.
     pub(crate) telling: bool,
 }
 

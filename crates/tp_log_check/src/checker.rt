@@ -1,13 +1,13 @@
 //! A log looked at line by line.
 
-ghost use Rattle.std.specs.Prelude.{◌≡◌, ◌≢◌, ◌+◌, ◌<◌, ◌^◌, ◌++◌, ◌∷◌, [], List, Some, None, Err, false, OnOk, OnErr, IfOk, IfErr, IfSome, IsSome, length};
+ghost use Rattle.std.specs.Prelude.{◌≡◌, ◌≢◌, ◌+◌, ◌<◌, ◌^◌, ◌++◌, ◌∷◌, [], List, Some, None, Err, false, OnOk, OnErr, IfOk, IfErr, IfSome, IsNone, IsSome, length};
 ghost use Rattle.std.specs.Bool.{MatchBool};
 ghost use Rattle.std.specs.List.{All};
 ghost use Rattle.tp_log_check.specs.Heights.{heights};
 ghost use Rattle.tp_log.specs.LogLines.{IsLogLine, is_event, log_line_text};
 ghost use Rattle.tp_log.specs.declared.log_line.LogLine.{LogLine};
 ghost use Rattle.tp_log.specs.declared.log_line.LogLine.TheVariants.{Event as EventLine};
-ghost use Rattle.tp_log_check.specs.Causes.{HasCause, flaw_at};
+ghost use Rattle.tp_log_check.specs.Causes.{HasCause, IsBehind, flaw_at};
 ghost use Rattle.tp_log_check.specs.FlawLines.{IsOffOr, LiesAt, LiesBehind, LiesInLast};
 ghost use Rattle.tp_log_check.specs.declared.flaw.Flaw.{Flaw};
 ghost use Rattle.tp_log_check.specs.declared.flaw.Flaw.TheVariants.{Memory as WantsMemory};
@@ -27,8 +27,8 @@ use tp_log_planner::WrongItem;
 use tp_machine::Machine;
 use tp_script::{Event, LineFault};
 
-/// Looks at a log with bounds line by line. It keeps the live part of the state after the events that were looked at, and what is told of
-/// the last event so far. What a budget says is taken on trust.
+/// Looks at a log with bounds line by line. It keeps the live part of the state after the events that were looked at, and the
+/// records and trees of the last event so far. What a budget says is taken on trust.
 pub struct LogChecker {
     alloc: Global,
     machine: Machine,
@@ -56,7 +56,7 @@ impl Drop for LogChecker {
     }
 }
 
-/// What is wrong with what is told of the event before a line that is off the grammar.
+/// What is wrong with the records and trees of the event before a line that is off the grammar.
 fn flaw_before(pending: &Pending, found: Option<WrongItem>) -> Option<Flaw>
     ensures known { IfSome result (λ flaw. flaw ≢ WantsMemory) }
     ensures is { IfSome result (λ flaw.
@@ -67,6 +67,7 @@ fn flaw_before(pending: &Pending, found: Option<WrongItem>) -> Option<Flaw>
         pending.now.line + 1 + heights pending.now.items.items < 2 ^ 64
         → LiesBehind pending.now.line
         (pending.now.line + 1 + heights pending.now.items.items) flaw) }
+    ensures behind { IsNone result → IfSome found (IsBehind pending.now.items.items) }
 {
     match found {
         Some(stop) => {
@@ -133,7 +134,7 @@ impl LogChecker {
         self.events
     }
 
-    /// Ends the event that is under way. Where something is wrong with what is told of it, that is kept. After `Memory` all is as before.
+    /// Ends the event that is under way. If its records or trees are wrong, the flaw is kept. After `Memory` all is as before.
     fn end_event(&mut self) -> Result<(), Flaw>
         ensures taken { OnOk result ((told : List LogLine) → HasTaken self.old told
             → HasTaken self.new told) }
@@ -243,7 +244,7 @@ impl LogChecker {
         }
     }
 
-    /// Adds a line to what is told of the event that is under way, or answers false where it may not stand there. After `Memory`
+    /// Adds a line to those of the event that is under way, or returns false if it may not stand there. After `Memory`
     /// all is as before.
     fn add(&mut self, told: LogLine) -> Result<bool, Memory>
         requires line { IsLogLine told }
@@ -314,7 +315,7 @@ impl LogChecker {
         }
     }
 
-    /// Takes the log's next line, given with its LF. What is told of an event is looked at as the next event's line comes, or a line off the
+    /// Takes the log's next line, given with its LF. An event is checked when the next event's line comes, or a line off the
     /// grammar. With a flaw other than `Memory` no lawful log begins with the lines so far. After `Memory` all is as before; after any other
     /// flaw each later call answers it again.
     pub fn feed(&mut self, line: &[u8]) -> Result<(), Flaw>

@@ -7,7 +7,7 @@ ghost use Rattle.tp_log.specs.declared.log_line.LogLine.{LogLine};
 use tp_log::LogLine;
 use tp_schedule::Record;
 
-/// How many events a log has, and how many plans, nones and budgets are told in it.
+/// How many events a log has, and how many plans, nones and budgets.
 #[derive(Clone, Copy, Debug, PartialEq, Eq)]
 pub struct Counts {
     pub events: u64,

@@ -2,7 +2,7 @@
 
 ghost use Rattle.std.specs.Prelude.{◌≡◌, ◌+◌, ℕ, IfOk, IfSome, OnErr, IsNone, MatchOption};
 ghost use Rattle.tp_log_check.specs.Gathered.{ArePlain, IsSame};
-ghost use Rattle.tp_log_check.specs.Causes.{IsDueOrStops};
+ghost use Rattle.tp_log_check.specs.Causes.{IsDueOrStops, TellWholeTurn};
 ghost use Rattle.tp_log_check.specs.EventEntry.{entry};
 ghost use Rattle.tp_log_check.specs.Lawful.{AreInPlaces, HasNoTurn, LeadsTo};
 ghost use Rattle.tp_log_laws.specs.AcceptedEntries.{IsAccepted};
@@ -18,7 +18,7 @@ use tp_event_rules::LiveState;
 use tp_log_planner::{Told, WrongItem};
 use tp_machine::Machine;
 
-/// Does the turn of the event that is under way, and says what is wrong with what is told of it. Where something is, or memory is
+/// Does the turn of the event that is under way, and returns what is wrong with its records and trees. Where something is, or memory is
 /// wanting, the state is as before.
 pub(crate) fn look(
     alloc: Global,
@@ -71,7 +71,7 @@ pub(crate) fn look(
     }
 }
 
-/// Does the turn of the event that is under way as far as it is told, and says what is wrong with it. The state is as before,
+/// Does the turn of the event that is under way by its records and trees so far, and returns what is wrong with them. The state is as before,
 /// whatever the answer.
 pub(crate) fn look_off(
     alloc: Global,
@@ -83,6 +83,8 @@ pub(crate) fn look_off(
     requires stocked { KeepsStock machine.now last_copy (seen state.old) }
     ensures why { IfOk result (λ found. IfSome found (IsDueOrStops machine.now
         (seen state.old) pending.old.event pending.old.items.items)) }
+    ensures right { IfOk result (λ found. IsNone found → TellWholeTurn machine.now
+        (seen state.old) pending.old.event pending.old.items.items) }
     ensures stays { seen state.new ≡ seen state.old }
     ensures same { IsSame pending.old pending.new }
 {

@@ -21,7 +21,7 @@ pub enum Flaw {
     Tree { line: u64, flaw: TreeFlaw },
 }
 
-/// Why a line is refused, as it is told: `line N: REASON`.
+/// Why a line is refused, in the form `line N: REASON`.
 impl fmt::Display for Flaw {
     ghost use Rattle.std.specs.Prelude.{Some};
     ghost use Rattle.tp_log_check.specs.FlawText.{flaw_text};
@@ -49,7 +49,7 @@ impl fmt::Display for Flaw {
     }
 }
 
-/// What is wrong with a tree, as it is told.
+/// What is wrong with a tree, as a text.
 #[derive(Clone, Copy)]
 struct TreeReason {
     flaw: TreeFlaw,

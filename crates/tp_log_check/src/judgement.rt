@@ -1,4 +1,4 @@
-//! Whether what is told of an event is what its turn tells.
+//! Whether an event's records and trees are those of its turn.
 
 ghost use Rattle.std.specs.Prelude.{◌≡◌, ◌↔◌, ◌+◌, ◌≤◌, ◌⊎◌, ℕ, [], IfOk, IfSome, IsNone, IsSome, MatchOption, Some, drop, length};
 ghost use Rattle.tp_log_check.specs.Gathered.{ArePlain};
@@ -73,7 +73,7 @@ fn judge_stopped(notes: &[Record], told: &Told) -> Option<WrongItem>
     }
 }
 
-/// Does the turn of the event with the answers that are told, and says what is wrong, which is nothing exactly where a lawful log may tell
+/// Does the turn of the event with the answers that its items tell, and returns what is wrong: nothing exactly where a lawful log may tell
 /// these items of it. After want of memory, or where something is
 /// wrong, nothing is known of the state, but its lines keep their mark.
 pub(crate) fn judge(

@@ -47,7 +47,7 @@ fn feed_all<S: Source>(
         Err(Stop::Line(n)) => Err(Rejection::Line(n)),
         Err(Stop::Sink) => match checked.found {
             Some(cause) => Err(cause),
-            // What is told was found.
+            // The counts were found.
             None => unreachable!(),
         },
         // No line is refused without a text, and each line has a byte.

@@ -1,4 +1,4 @@
-//! The event that is under way: what was told of it so far.
+//! The event that is under way, with its records and trees so far.
 
 ghost use Rattle.std.specs.Prelude.{List, ◌≡◌, ◌+◌, ◌<◌, ◌≤◌, ◌++◌, ◌∷◌, [], OnOk, OnErr, IfOk, vec_len, vec_capacity};
 ghost use Rattle.std.specs.Bool.{MatchBool};
@@ -64,7 +64,7 @@ impl Drop for Pending {
 }
 
 impl Pending {
-    /// An event of which nothing is told yet, with the number of its line.
+    /// An event without records yet, with the number of its line.
     pub fn new(alloc: Global, line: u64, event: Event) -> Pending
         requires echoed { IsEchoed event }
         ensures pending { IsPending result }

@@ -29,7 +29,7 @@ pub fn bound_runs_are_accepted()
     ensures { (machine : Machine) → BoundRunsAccepted machine }
 {}
 
-/// Where the event of an entry has a turn of right answers on a whole state, its budgets on trust, the planner that is told the entry's records
+/// Where the event of an entry has a turn of right answers on a whole state, its budgets on trust, the planner that takes its answers from the entry's records
 /// and trees never stops in the turn on the live part, and tells and leaves the same.
 pub fn lawful_turns_are_accepted()
     ensures { (machine : Machine) → LawfulTurnsAccepted machine }

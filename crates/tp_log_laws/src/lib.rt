@@ -1,4 +1,4 @@
-//! Accepted logs: why entries whose turns are taken over answers that are told, with their trees, make a lawful log.
+//! Accepted logs: why entries whose turns are taken over the answers that a log tells, with their trees, make a lawful log.
 #![tactic(auto)]
 
 mod laws;

@@ -1,4 +1,4 @@
-//! The records by which no answer is told.
+//! The records that tell no answer.
 ghost use Rattle.std.specs.Prelude.{◌≡◌, ◌≤◌, drop, length};
 ghost use Rattle.tp_log_planner.specs.ToldAnswers.{begins_with_move, behind_asides, is_aside, is_other};
 

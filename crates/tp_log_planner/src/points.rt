@@ -27,7 +27,7 @@ pub(crate) fn points_of(ticks: &[Tick]) -> Points
     points
 }
 
-/// The points of a copy's plan, of which these are told: behind those of its front, if it has one.
+/// The points of a copy's plan, of which the record has these: behind those of its front, if it has one.
 pub(crate) fn points_behind(front: Option<&Plan>, ticks: &[Tick]) -> Points
     requires some { 1 ≤ length ticks.now }
     requires room { length (points_behind (option_copied front) ticks.now) ≤ most_plan_points }

@@ -14,7 +14,7 @@ use tp_machine::Machine;
 use tp_schedule::{Ask, Halt, Planner, Reply, Schedule};
 
 /// A planner that takes its answers from the records and trees of one event, in the order of the log. Each answer that it
-/// gives is told so there and right. Where they tell no right answer it stops, keeps why, and takes nothing.
+/// gives stands there and is right. Where they tell no right answer it stops, keeps why, and takes nothing.
 #[derive(Drop)]
 pub struct Told {
     alloc: Global,
@@ -88,7 +88,7 @@ impl Told {
         self.at
     }
 
-    /// The number of the first item to come by which an answer is told, or that of all items. It is at this one that an answer
+    /// The number of the first item to come that tells an answer, or that of all items. It is at this one that an answer
     /// or a settling is looked for.
     pub fn next(&self) -> usize
         ensures items { drop result self.now.items ≡ behind_asides (ahead self.now) }

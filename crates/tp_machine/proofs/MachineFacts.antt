@@ -18,7 +18,7 @@ use Rattle.tp_machine.specs.declared.parts.LocId.{LocId}
 use Rattle.tp_machine.specs.declared.parts.Resource.{Resource}
 use Rattle.tp_machine.specs.declared.machine.Machine.{Machine}
 use Rattle.tp_machine.proofs.NameFacts.{action_names, all_names, few_holds_at, media_names, name_tests, names_differ, resource_names}
-use Rattle.tp_machine.proofs.RisingNames.{rising_names_differ}
+use Rattle.tp_machine.proofs.SortedNames.{rising_names_differ}
 use Rattle.tp_machine.proofs.Amounts.{amounts_of, stocks_within, modes_at}
 use Rattle.tp_machine.proofs.ModeFacts.{gap_at_most}
 use Rattle.tp_machine.proofs.Lists.{list_all-at, All-from_test, All-from_none, not_contained, AllPairs-nil, AllPairs-cons}

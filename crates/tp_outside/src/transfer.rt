@@ -63,7 +63,7 @@ pub fn read_file<H: Shelf>(
         (λ _. ¬ IsErrOf result ReadError.Failed → H.amiss shelf.new ≡ H.amiss shelf.old) }
     ensures absent { IfSome (H.known shelf.old) (λ files. file_at files name.now ≡ None →
         IsErrOf result ReadError.Failed × (H.amiss shelf.new ≡ H.amiss shelf.old)) }
-    ensures told { H.known shelf.new ≡ H.known shelf.old }
+    ensures known_stays { H.known shelf.new ≡ H.known shelf.old }
     ensures counted { IsCounted (H.faults shelf.old) (H.faults shelf.new) }
 {
     let mut text = Vec::new(alloc);

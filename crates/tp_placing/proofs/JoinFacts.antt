@@ -22,7 +22,7 @@ use Rattle.tp_choices.proofs.PastFacts.{past_points}
 use Rattle.tp_choices.proofs.PlansOf.{plan_of-contains}
 use Rattle.tp_choices.proofs.PointFacts.{point-le}
 use Rattle.tp_choices.proofs.SameTicks.{order-staying}
-use Rattle.tp_choices.proofs.StayingPlans.{on_copy, stays, staying}
+use Rattle.tp_choices.proofs.PlansLeft.{on_copy, stays, staying}
 use Rattle.tp_choices.proofs.Unmoved.{ordered_pair}
 use Rattle.tp_constraints.specs.AddedPlan.{with_plan}
 use Rattle.tp_placing.proofs.WriteLive.{ended, gone, may-forget}

@@ -28,7 +28,7 @@ use Rattle.tp_choices.proofs.RejoinedPlans.{live_is_least}
 use Rattle.tp_choices.proofs.LiveOrders.{others_of}
 use Rattle.tp_choices.proofs.Parts.{filter-swap}
 use Rattle.tp_choices.proofs.PointFacts.{past-fixed}
-use Rattle.tp_choices.proofs.StayingPlans.{plan_of-staying}
+use Rattle.tp_choices.proofs.PlansLeft.{plan_of-staying}
 use Rattle.tp_choices.proofs.WholeAnswers.{whole_answers}
 use Rattle.tp_constraints.specs.Nets.{IsBoardNet}
 use Rattle.tp_constraints.specs.Numbers.{table_of}

@@ -69,7 +69,7 @@ impl<N: Network> Board<N> {
         }
     }
 
-    /// Why an edge of the network, or of what `reason` tells, stands. Nothing is told of other edges: the edge's tag is to be
+    /// Why an edge of the network, or of what `reason` tells, stands. Nothing is known of other edges: the edge's tag is to be
     /// that of a cause that the board keeps.
     pub fn why_of(&self, edge: Edge) -> Why
         requires stands { (m : Machine) × Stands N.reading self.now m }

@@ -3,4 +3,4 @@ pub mod Nodes
 pub mod Inside
 pub mod Queues
 pub mod Linked
-pub mod GrowingQueue
+pub mod QueueGrowth

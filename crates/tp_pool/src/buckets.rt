@@ -29,7 +29,7 @@ pub struct Buckets {
 // Clauses see the nodes with their bounds, in an order that means nothing, and the numbers that it was made for.
 impl Model for Buckets {
     ghost use Rattle.tp_pool.specs.Queues.{BucketQueue};
-    ghost use Rattle.tp_pool.specs.GrowingQueue.{queue_of, IsGrowing};
+    ghost use Rattle.tp_pool.specs.QueueGrowth.{queue_of, IsGrowing};
 
     ghost Value = { BucketQueue };
 

@@ -30,37 +30,37 @@ module _ (words : List (List ℕ)) (asked : Asked) (named : form words ≡ Some 
       let same : asked ≡ other = cc in
       subst P same (holds (ap (λ (a : Asked). a.mode) same ∙ mode_is))
 
-  pub amiss_asked : (R : Type 0) (told : Option Files) → IfSome told (λ files. IsThereFor files asked → R)
-      → IfSome told (λ files. IfSome (form words) (λ other. IsThereFor files other → R))
+  pub amiss_asked : (R : Type 0) (known : Option Files) → IfSome known (λ files. IsThereFor files asked → R)
+      → IfSome known (λ files. IfSome (form words) (λ other. IsThereFor files other → R))
   amiss_asked R None h = h
   amiss_asked R (Some files) h = subst (λ found. IfSome found (λ (other : Asked). IsThereFor files other → R)) (sym named) h
 
-  module _ {S K : Type 0} (left : S → Option (List ℕ)) (taken : K → Option (List ℕ)) (told : Option Files) (source source' : S) (sink sink' : K) (s : Status)
-      (ends : Ends left taken told source source' sink sink' asked s) where
-    pub run_ends : Asks Run words (λ a. RunEnds left taken told source source' sink sink' a s)
-    run_ends = asks_this Run (λ a. RunEnds left taken told source source' sink sink' a s) (λ mode. subst (λ m. EndsAs left taken told source source' sink sink' m asked s) mode ends)
+  module _ {S K : Type 0} (left : S → Option (List ℕ)) (taken : K → Option (List ℕ)) (known : Option Files) (source source' : S) (sink sink' : K) (s : Status)
+      (ends : Ends left taken known source source' sink sink' asked s) where
+    pub run_ends : Asks Run words (λ a. RunEnds left taken known source source' sink sink' a s)
+    run_ends = asks_this Run (λ a. RunEnds left taken known source source' sink sink' a s) (λ mode. subst (λ m. EndsAs left taken known source source' sink sink' m asked s) mode ends)
 
-    pub save_ends : Asks Save words (λ a. SaveEnds left taken told source source' sink sink' a s)
-    save_ends = asks_this Save (λ a. SaveEnds left taken told source source' sink sink' a s) (λ mode. subst (λ m. EndsAs left taken told source source' sink sink' m asked s) mode ends)
+    pub save_ends : Asks Save words (λ a. SaveEnds left taken known source source' sink sink' a s)
+    save_ends = asks_this Save (λ a. SaveEnds left taken known source source' sink sink' a s) (λ mode. subst (λ m. EndsAs left taken known source source' sink sink' m asked s) mode ends)
 
-    pub resume_ends : Asks Resume words (λ a. ResumeEnds left taken told source source' sink sink' a s)
-    resume_ends = asks_this Resume (λ a. ResumeEnds left taken told source source' sink sink' a s) (λ mode. subst (λ m. EndsAs left taken told source source' sink sink' m asked s) mode ends)
+    pub resume_ends : Asks Resume words (λ a. ResumeEnds left taken known source source' sink sink' a s)
+    resume_ends = asks_this Resume (λ a. ResumeEnds left taken known source source' sink sink' a s) (λ mode. subst (λ m. EndsAs left taken known source source' sink sink' m asked s) mode ends)
 
-    pub compose_ends : Asks Compose words (λ a. ComposeEnds taken told source source' sink sink' a s)
-    compose_ends = asks_this Compose (λ a. ComposeEnds taken told source source' sink sink' a s) (λ mode. subst (λ m. EndsAs left taken told source source' sink sink' m asked s) mode ends)
+    pub compose_ends : Asks Compose words (λ a. ComposeEnds taken known source source' sink sink' a s)
+    compose_ends = asks_this Compose (λ a. ComposeEnds taken known source source' sink sink' a s) (λ mode. subst (λ m. EndsAs left taken known source source' sink sink' m asked s) mode ends)
 
-    pub check_ends : Asks Check words (λ a. CheckEnds left taken told source source' sink sink' a s)
-    check_ends = asks_this Check (λ a. CheckEnds left taken told source source' sink sink' a s) (λ mode. subst (λ m. EndsAs left taken told source source' sink sink' m asked s) mode ends)
+    pub check_ends : Asks Check words (λ a. CheckEnds left taken known source source' sink sink' a s)
+    check_ends = asks_this Check (λ a. CheckEnds left taken known source source' sink sink' a s) (λ mode. subst (λ m. EndsAs left taken known source source' sink sink' m asked s) mode ends)
 
-    pub farm_ends : Asks Farm words (λ a. FarmEnds left taken told source source' sink sink' a s)
-    farm_ends = asks_this Farm (λ a. FarmEnds left taken told source source' sink sink' a s) (λ mode. subst (λ m. EndsAs left taken told source source' sink sink' m asked s) mode ends)
+    pub farm_ends : Asks Farm words (λ a. FarmEnds left taken known source source' sink sink' a s)
+    farm_ends = asks_this Farm (λ a. FarmEnds left taken known source source' sink sink' a s) (λ mode. subst (λ m. EndsAs left taken known source source' sink sink' m asked s) mode ends)
 
     pub soak_ends : {H : Type 0} (shelf shelf' : H) → (asked.mode ≡ Soak → shelf' ≡ shelf) → Asks Soak words (λ a. (shelf' ≡ shelf) × SoakEnds taken source source' sink sink' a s)
     soak_ends shelf shelf' unread =
-        asks_this Soak (λ a. (shelf' ≡ shelf) × SoakEnds taken source source' sink sink' a s) (λ mode. (unread mode, subst (λ m. EndsAs left taken told source source' sink sink' m asked s) mode ends))
+        asks_this Soak (λ a. (shelf' ≡ shelf) × SoakEnds taken source source' sink sink' a s) (λ mode. (unread mode, subst (λ m. EndsAs left taken known source source' sink sink' m asked s) mode ends))
 
     -- no mode ends in a refusal of the words
-    no_usage : (mode : Mode) → EndsAs left taken told source source' sink sink' mode asked status.Usage → ⊥
+    no_usage : (mode : Mode) → EndsAs left taken known source source' sink sink' mode asked status.Usage → ⊥
     no_usage Run (inl none) = none.0
     no_usage Run (inr ran) = ran.did
     no_usage Save (inl none) = none.0
@@ -77,22 +77,22 @@ module _ (words : List (List ℕ)) (asked : Asked) (named : form words ≡ Some 
     no_usage Soak (same, inr wrote) = wrote.2
 
     pub usage : s ≡ status.Usage → (form words ≡ None) × (source' ≡ source) × (sink' ≡ sink)
-    usage is = absurd (no_usage asked.mode (subst (λ s. EndsAs left taken told source source' sink sink' asked.mode asked s) is ends))
+    usage is = absurd (no_usage asked.mode (subst (λ s. EndsAs left taken known source source' sink sink' asked.mode asked s) is ends))
 
     pub used : form words ≡ None → (s ≡ status.Usage) ⊎ ((s ≡ status.Memory) × (source' ≡ source) × (sink' ≡ sink))
     used none = (let some : Some asked ≡ None = sym named ∙ none in absurd cc)
 
 -- what was done by the mode is what was asked for
-pub as_asked : {S K : Type 0} (left : S → Option (List ℕ)) (taken : K → Option (List ℕ)) (told : Option Files) (source source' : S) (sink sink' : K) (asked : Asked) (s : Status) (mode : Mode)
-    → asked.mode ≡ mode → EndsAs left taken told source source' sink sink' mode asked s → Ends left taken told source source' sink sink' asked s
-as_asked left taken told source source' sink sink' asked s mode is ends = subst (λ m. EndsAs left taken told source source' sink sink' m asked s) (sym is) ends
+pub as_asked : {S K : Type 0} (left : S → Option (List ℕ)) (taken : K → Option (List ℕ)) (known : Option Files) (source source' : S) (sink sink' : K) (asked : Asked) (s : Status) (mode : Mode)
+    → asked.mode ≡ mode → EndsAs left taken known source source' sink sink' mode asked s → Ends left taken known source source' sink sink' asked s
+as_asked left taken known source source' sink sink' asked s mode is ends = subst (λ m. EndsAs left taken known source source' sink sink' m asked s) (sym is) ends
 
 -- where what is asked for is there, the text of ARG is, and of a farm all that its list names
-pub amiss_arg : (R : Type 0) (told : Option Files) (asked : Asked) → IfSome told (λ files. IsSome (file_at files asked.arg) → R) → IfSome told (λ files. IsThereFor files asked → R)
+pub amiss_arg : (R : Type 0) (known : Option Files) (asked : Asked) → IfSome known (λ files. IsSome (file_at files asked.arg) → R) → IfSome known (λ files. IsThereFor files asked → R)
 amiss_arg R None asked h = tt
 amiss_arg R (Some files) asked h = λ there. h there.arg
 
-pub amiss_listed : (R : Type 0) (told : Option Files) (asked : Asked) → asked.mode ≡ Farm → IfSome told (λ files. IsSome (file_at files asked.arg) → NoneListedMissing files asked.arg → R)
-    → IfSome told (λ files. IsThereFor files asked → R)
+pub amiss_listed : (R : Type 0) (known : Option Files) (asked : Asked) → asked.mode ≡ Farm → IfSome known (λ files. IsSome (file_at files asked.arg) → NoneListedMissing files asked.arg → R)
+    → IfSome known (λ files. IsThereFor files asked → R)
 amiss_listed R None asked mode h = tt
 amiss_listed R (Some files) asked mode h = λ there. h there.arg (there.listed mode)

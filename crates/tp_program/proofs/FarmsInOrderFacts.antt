@@ -15,7 +15,7 @@ use Rattle.tp_program.specs.declared.farm_fault.FarmFault.TheVariants as farm
 use Rattle.tp_program.specs.declared.status.Long.TheVariants as size
 use Rattle.tp_program.specs.declared.status.Status.{Status}
 use Rattle.tp_program.specs.declared.status.Status.TheVariants as status
-use Rattle.tp_program.proofs.FarmingFacts.{All-there}
+use Rattle.tp_program.proofs.FarmEndFacts.{All-there}
 use Rattle.tp_program.proofs.InOrderFacts.{has, named_something, not_long}
 use Rattle.tp_stream.proofs.NextLines.{next-some}
 use Rattle.tp_program.proofs.Sizes.{not_too_long, not_too_many}

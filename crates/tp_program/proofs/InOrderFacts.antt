@@ -31,15 +31,15 @@ named_something words asked named none = (let some : Some asked ≡ None = sym n
 module _ (files : Files) (name text : List ℕ) (there : IsThere files name text) where
   same_text : (P : List ℕ → Type 0) (named : IsShelved (Some files) name P) → named.text ≡ text
   same_text P named =
-      let told : file_at files name ≡ Some named.text = named.is_told in
-      let here : file_at files name ≡ Some text = there.is_told in
+      let known : file_at files name ≡ Some named.text = named.is_known in
+      let here : file_at files name ≡ Some text = there.is_known in
       cc
 
   pub has : (P : List ℕ → Type 0) → IsShelved (Some files) name P → P text
   has P named = subst P (same_text P named) named.has
 
   pub not_long : ¬ IsLongText (Some files) name
-  not_long long = not_longer (length text) there.fits (subst (λ found. IsSomeAnd found (λ text. most_text < length text)) there.is_told long)
+  not_long long = not_longer (length text) there.fits (subst (λ found. IsSomeAnd found (λ text. most_text < length text)) there.is_known long)
 
 -- the text of a machine
 module _ (files : Files) (name text : List ℕ) (there : IsThere files name text) (machine : Machine) (is_text : IsMachineText text machine) where

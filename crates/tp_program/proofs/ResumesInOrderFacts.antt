@@ -24,8 +24,8 @@ not_longer n fits long = omega (arith, fits, long)
 module _ (verdict : OneVerdict) (words : List (List ℕ)) (files : Files) (script : List ℕ) (asked : Asked) (good : IsResumeInOrder words files script asked) where
   same_text : (P : List ℕ → Type 0) (named : IsSaved (Some files) asked.arg P) → named.text ≡ good.text
   same_text P named =
-      let told : file_at files asked.arg ≡ Some named.text = named.is_told in
-      let here : file_at files asked.arg ≡ Some good.text = good.is_told in
+      let known : file_at files asked.arg ≡ Some named.text = named.is_known in
+      let here : file_at files asked.arg ≡ Some good.text = good.is_known in
       cc
 
   has_text : (P : List ℕ → Type 0) → IsSaved (Some files) asked.arg P → P good.text
@@ -34,7 +34,7 @@ module _ (verdict : OneVerdict) (words : List (List ℕ)) (files : Files) (scrip
   found : (s : Status) → IsTrue (is_refusal s) → ¬ NoSnapshot (Some files) asked.arg s
   found (status.Snapshot snap.NotJson) is none = (verdict good.text).json good.machine good.standing good.is_snapshot (has_text IsNotJson none)
   found (status.Snapshot (snap.Rule n)) is none = (verdict good.text).kept good.machine good.standing n good.is_snapshot (has_text (IsBrokenAt n) none)
-  found (status.TooLong size.Snapshot) is none = not_longer (length good.text) good.fits (subst (λ found. IsSomeAnd found (λ text. most_snapshot < length text)) good.is_told none)
+  found (status.TooLong size.Snapshot) is none = not_longer (length good.text) good.fits (subst (λ found. IsSomeAnd found (λ text. most_snapshot < length text)) good.is_known none)
   found status.Memory is none = absurd cc
   found status.Shelf is none = absurd cc
   found s is none = none

@@ -3,7 +3,7 @@ use Rattle.std.proofs.Common.{◌≡◌, ◌≢◌, ℕ, Bool, List, [], Option,
 use Rattle.std.specs.Prelude.{IfSome, unwrap_or}
 use Rattle.tp_machine.specs.declared.machine.Machine.{Machine}
 use Rattle.tp_run_laws.specs.Wholes.{IsWhole}
-use Rattle.tp_session.specs.GoingOn.{ScriptsGoOn, StopsGoOn, stands_at}
+use Rattle.tp_session.specs.Continuations.{ScriptsGoOn, StopsGoOn, stands_at}
 use Rattle.tp_session.specs.Sessions.{Standing, Tells}
 use Rattle.tp_stream.specs.Scripts.{AnswersLine, IsStopped, IsTaken, line_bytes}
 use Rattle.tp_stream.specs.Takes.{place_of}

@@ -8,14 +8,14 @@ use Rattle.tp_program.specs.declared.status.Long.TheVariants as size
 use Rattle.tp_program.specs.declared.status.Status.{Status}
 use Rattle.tp_program.specs.declared.status.Status.TheVariants as status
 
-pub no_machine : (told : Option Files) (name : List ℕ) (s : Status) → NoText told name s → NoMachine told name s
-no_machine told name status.Memory none = none
-no_machine told name status.Shelf none = none
-no_machine told name (status.TooLong size.MachineText) none = none
-no_machine told name s none = absurd none
+pub no_machine : (known : Option Files) (name : List ℕ) (s : Status) → NoText known name s → NoMachine known name s
+no_machine known name status.Memory none = none
+no_machine known name status.Shelf none = none
+no_machine known name (status.TooLong size.MachineText) none = none
+no_machine known name s none = absurd none
 
-pub no_rack : (told : Option Files) (name : List ℕ) (s : Status) → NoText told name s → NoRack told name s
-no_rack told name status.Memory none = none
-no_rack told name status.Shelf none = none
-no_rack told name (status.TooLong size.MachineText) none = none
-no_rack told name s none = absurd none
+pub no_rack : (known : Option Files) (name : List ℕ) (s : Status) → NoText known name s → NoRack known name s
+no_rack known name status.Memory none = none
+no_rack known name status.Shelf none = none
+no_rack known name (status.TooLong size.MachineText) none = none
+no_rack known name s none = absurd none

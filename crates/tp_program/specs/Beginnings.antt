@@ -3,7 +3,7 @@ use Rattle.std.specs.Prelude.{ℕ, Bool, Option, Some, None, option_map}
 use Rattle.std.specs.Borrow.{Bor}
 use Rattle.tp_machine.specs.declared.machine.Machine.{Machine}
 use Rattle.tp_jobs.specs.declared.standing.Standing as kept
-use Rattle.tp_session.specs.GoingOn.{stands_at}
+use Rattle.tp_session.specs.Continuations.{stands_at}
 use Rattle.tp_session.specs.Sessions.{Standing}
 use Rattle.tp_session_standing.specs.Sound.{IsSound}
 use Rattle.tp_session_standing.specs.StandingStates.{standing_state}

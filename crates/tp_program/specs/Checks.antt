@@ -28,7 +28,7 @@ status_of (cause.Flaw flaw) = Rejected flaw
 abbrev pub WritesCounts : Counts → Option (List ℕ) → Option (List ℕ) → Status → Type 0
 WritesCounts counts taken taken' status = WritesOne (λ text. text ≡ counts_text counts) taken taken' status
 
--- on a machine: what the source told before and after, and the sink before and after
+-- on a machine: what is left of the source before and after, and the sink before and after
 module _ {K : Type 0} (taken : K → Option (List ℕ)) (machine : Machine) (left left' : Option (List ℕ)) (sink sink' : K) where
   -- the source was read to its end, what it gave is the text of a log that is lawful with bounds, but for the causes of its
   -- budgets, and the line of the log's counts was written, or a first part of it
@@ -53,14 +53,14 @@ module _ {K : Type 0} (taken : K → Option (List ℕ)) (machine : Machine) (lef
   ChecksOn _ = ⊥
 
 -- the name is that of a machine's text, and the log was looked at as one of the machine
-pub record CheckedBy {K : Type 0} (taken : K → Option (List ℕ)) (told : Option Files) (asked : Asked) (left left' : Option (List ℕ)) (sink sink' : K) (status : Status) : Type 0 where
+pub record CheckedBy {K : Type 0} (taken : K → Option (List ℕ)) (known : Option Files) (asked : Asked) (left left' : Option (List ℕ)) (sink sink' : K) (status : Status) : Type 0 where
   pub machine : Machine
-  pub text : IsShelved told asked.arg (λ text. IsMachineText text machine)
+  pub text : IsShelved known asked.arg (λ text. IsMachineText text machine)
   pub did : ChecksOn taken machine left left' sink sink' status
 
 -- how a check ends: there is no machine, and nothing is read or written; or the log was looked at
-module _ {S K : Type 0} (left : S → Option (List ℕ)) (taken : K → Option (List ℕ)) (told : Option Files) (source source' : S) (sink sink' : K) where
+module _ {S K : Type 0} (left : S → Option (List ℕ)) (taken : K → Option (List ℕ)) (known : Option Files) (source source' : S) (sink sink' : K) where
   abbrev pub CheckEnds : Asked → Status → Type 0
   CheckEnds asked status =
-      (NoMachine told asked.arg status × (source' ≡ source) × (sink' ≡ sink))
-      ⊎ CheckedBy taken told asked (left source) (left source') sink sink' status
+      (NoMachine known asked.arg status × (source' ≡ source) × (sink' ≡ sink))
+      ⊎ CheckedBy taken known asked (left source) (left source') sink sink' status

@@ -13,22 +13,22 @@ use Rattle.tp_program.specs.declared.status.Status.TheVariants.{Memory, Shelf, T
 
 -- why nothing is composed of the text of this name
 abbrev pub NoRack : Option Files → List ℕ → Status → Type 0
-NoRack told name Memory = Unit {0}
-NoRack told name Shelf = Unit {0}
-NoRack told name (TooLong MachineText) = IsLongText told name
-NoRack told name (Rack NotToml) = IsShelved told name IsNotToml
-NoRack told name (Rack (Rule n)) = IsShelved told name (IsRackBrokenAt n)
-NoRack told name (Rack (Flat n)) = IsShelved told name (IsFlatBrokenAt n)
-NoRack told name _ = ⊥
+NoRack known name Memory = Unit {0}
+NoRack known name Shelf = Unit {0}
+NoRack known name (TooLong MachineText) = IsLongText known name
+NoRack known name (Rack NotToml) = IsShelved known name IsNotToml
+NoRack known name (Rack (Rule n)) = IsShelved known name (IsRackBrokenAt n)
+NoRack known name (Rack (Flat n)) = IsShelved known name (IsFlatBrokenAt n)
+NoRack known name _ = ⊥
 
 -- the text of this name is a rack's, and the machine text that is composed of it was written, or cut short
 abbrev pub WritesComposed : Option Files → List ℕ → Option (List ℕ) → Option (List ℕ) → Status → Type 0
-WritesComposed told name taken taken' status =
-    IsShelved told name (λ text. IsSoundRack text × WritesOne (IsComposed text) taken taken' status)
+WritesComposed known name taken taken' status =
+    IsShelved known name (λ text. IsSoundRack text × WritesOne (IsComposed text) taken taken' status)
 
 -- how composing ends: nothing is composed, and nothing written; or what is composed is written. The source is never read
-module _ {S K : Type 0} (taken : K → Option (List ℕ)) (told : Option Files) (source source' : S) (sink sink' : K) where
+module _ {S K : Type 0} (taken : K → Option (List ℕ)) (known : Option Files) (source source' : S) (sink sink' : K) where
   abbrev pub ComposeEnds : Asked → Status → Type 0
   ComposeEnds asked status =
       (source' ≡ source)
-      × ((NoRack told asked.arg status × (sink' ≡ sink)) ⊎ WritesComposed told asked.arg (taken sink) (taken sink') status)
+      × ((NoRack known asked.arg status × (sink' ≡ sink)) ⊎ WritesComposed known asked.arg (taken sink) (taken sink') status)

@@ -28,26 +28,26 @@ pub record AreNames (list : List ℕ) (names : List (List ℕ)) : Type 0 where
 
 -- the name is that of this machine's text
 abbrev pub HasMachine : Option Files → List ℕ → Machine → Type 0
-HasMachine told name machine = IsShelved told name (λ text. IsMachineText text machine)
+HasMachine known name machine = IsShelved known name (λ text. IsMachineText text machine)
 
 -- the names are those of these machines' texts, in their order
 abbrev pub AreMachines : Option Files → List (List ℕ) → List Machine → Type 0
-AreMachines told names machines = AllZip (HasMachine told) names machines
+AreMachines known names machines = AllZip (HasMachine known) names machines
 
 -- the name of this number, counted from 1, is the first that isn't a machine's, and P holds of it
-pub record IsFirstOther (told : Option Files) (names : List (List ℕ)) (number : ℕ) (P : List ℕ → Type 0) : Type 0 where
+pub record IsFirstOther (known : Option Files) (names : List (List ℕ)) (number : ℕ) (P : List ℕ → Type 0) : Type 0 where
   pub place : ℕ
   pub counted : number ≡ place + 1
   pub name : List ℕ
   pub there : slice_get names place ≡ Some name
   pub other : P name
   pub machines : List Machine
-  pub before : AreMachines told (take place names) machines
+  pub before : AreMachines known (take place names) machines
 
 -- the text of this name is a list, and P holds of its names
-pub record IsListed (told : Option Files) (name : List ℕ) (P : List (List ℕ) → Type 0) : Type 0 where
+pub record IsListed (known : Option Files) (name : List ℕ) (P : List (List ℕ) → Type 0) : Type 0 where
   pub names : List (List ℕ)
-  pub list : IsShelved told name (λ list. AreNames list names)
+  pub list : IsShelved known name (λ list. AreNames list names)
   pub has : P names
 
 -- no name that is looked for is missing on the shelf: the first that isn't a machine's is there
@@ -62,22 +62,22 @@ NoneListedMissing files name = (list : List ℕ) (names : List (List ℕ)) → f
 
 -- why one of the names is no machine's: each name before it is one's
 abbrev pub NoMachines : Option Files → List (List ℕ) → Status → Type 0
-NoMachines told names Memory = Unit {0}
-NoMachines told names Shelf = Unit {0}
-NoMachines told names (TooLong MachineText) = (number : ℕ) × IsFirstOther told names number (IsLongText told)
-NoMachines told names (Farm (MachineAt number NotToml)) = IsFirstOther told names number (λ name. IsShelved told name IsNotToml)
-NoMachines told names (Farm (MachineAt number (Rule n))) = IsFirstOther told names number (λ name. IsShelved told name (IsBrokenAt n))
-NoMachines told names _ = ⊥
+NoMachines known names Memory = Unit {0}
+NoMachines known names Shelf = Unit {0}
+NoMachines known names (TooLong MachineText) = (number : ℕ) × IsFirstOther known names number (IsLongText known)
+NoMachines known names (Farm (MachineAt number NotToml)) = IsFirstOther known names number (λ name. IsShelved known name IsNotToml)
+NoMachines known names (Farm (MachineAt number (Rule n))) = IsFirstOther known names number (λ name. IsShelved known name (IsBrokenAt n))
+NoMachines known names _ = ⊥
 
 -- why there is no farm of the list of this name. That the shelf failed, its counts say
 abbrev pub NoFarm : Option Files → List ℕ → Status → Type 0
-NoFarm told name Memory = Unit {0}
-NoFarm told name Shelf = Unit {0}
-NoFarm told name (TooLong MachineText) = IsLongText told name ⊎ IsListed told name (λ names. NoMachines told names (TooLong MachineText))
-NoFarm told name (Farm Lines) = IsShelved told name IsNoList
-NoFarm told name (Farm (Name number)) = IsShelved told name (IsBadName number)
-NoFarm told name (Farm (MachineAt number fault)) = IsListed told name (λ names. NoMachines told names (Farm (MachineAt number fault)))
-NoFarm told name _ = ⊥
+NoFarm known name Memory = Unit {0}
+NoFarm known name Shelf = Unit {0}
+NoFarm known name (TooLong MachineText) = IsLongText known name ⊎ IsListed known name (λ names. NoMachines known names (TooLong MachineText))
+NoFarm known name (Farm Lines) = IsShelved known name IsNoList
+NoFarm known name (Farm (Name number)) = IsShelved known name (IsBadName number)
+NoFarm known name (Farm (MachineAt number fault)) = IsListed known name (λ names. NoMachines known names (Farm (MachineAt number fault)))
+NoFarm known name _ = ⊥
 
 -- what the status of one machine says of a farm in which it has this number
 abbrev pub of_machine : ℕ → Status → Status
@@ -87,23 +87,23 @@ of_machine number status = status
 -- ---- how a farm ends
 
 -- the name is that of a machine's text, and this is where a session on it stands before its first event
-pub record BeginsOn (told : Option Files) (budget : Option ℕ) (bounds : Bool) (name : List ℕ) (standing : Standing) : Type 0 where
+pub record BeginsOn (known : Option Files) (budget : Option ℕ) (bounds : Bool) (name : List ℕ) (standing : Standing) : Type 0 where
   pub machine : Machine
-  pub text : HasMachine told name machine
+  pub text : HasMachine known name machine
   pub begins : standing ≡ start_of machine budget bounds
 
 -- the text of this name lists the names of machines' texts, and this holds of the machines
-pub record FarmsOn (told : Option Files) (name : List ℕ) (P : List Machine → Type 0) : Type 0 where
+pub record FarmsOn (known : Option Files) (name : List ℕ) (P : List Machine → Type 0) : Type 0 where
   pub machines : List Machine
-  pub listed : IsListed told name (λ names. AreMachines told names machines)
+  pub listed : IsListed known name (λ names. AreMachines known names machines)
   pub has : P machines
 
 -- the farm has a session at its start for each machine that the words name, with their budget, or else the machine's, and with
 -- bounds where they ask for them
 abbrev pub IsFarmFor : Option Files → Asked → FarmState Standing → Type 0
-IsFarmFor told asked farm = FarmsOn told asked.arg (λ machines. farm ≡ farm_start machines asked.budget asked.bounds)
+IsFarmFor known asked farm = FarmsOn known asked.arg (λ machines. farm ≡ farm_start machines asked.budget asked.bounds)
 
--- on machines, with this budget and with bounds or without: what the source told before and after, and what the sink had
+-- on machines, with this budget and with bounds or without: what is left of the source before and after, and what the sink had
 -- taken before and after
 module _ (machines : List Machine) (budget : Option ℕ) (bounds : Bool) (left left' taken taken' : Option (List ℕ)) where
   -- the script that the source gave was answered by the farm, and its text was written. The lines of each machine, without its
@@ -120,12 +120,12 @@ module _ (machines : List Machine) (budget : Option ℕ) (bounds : Bool) (left l
   FarmEndsOn status = EndsBy (FarmDone × IsAtEnd left left') FarmStops status
 
 abbrev pub FarmedBy : Option Files → Asked → Option (List ℕ) → Option (List ℕ) → Option (List ℕ) → Option (List ℕ) → Status → Type 0
-FarmedBy told asked left left' taken taken' status =
-    FarmsOn told asked.arg (λ machines. FarmEndsOn machines asked.budget asked.bounds left left' taken taken' status)
+FarmedBy known asked left left' taken taken' status =
+    FarmsOn known asked.arg (λ machines. FarmEndsOn machines asked.budget asked.bounds left left' taken taken' status)
 
 -- how a farm ends: there is none, and nothing is read or written; or it answered
-module _ {S K : Type 0} (left : S → Option (List ℕ)) (taken : K → Option (List ℕ)) (told : Option Files) (source source' : S) (sink sink' : K) where
+module _ {S K : Type 0} (left : S → Option (List ℕ)) (taken : K → Option (List ℕ)) (known : Option Files) (source source' : S) (sink sink' : K) where
   abbrev pub FarmEnds : Asked → Status → Type 0
   FarmEnds asked status =
-      (NoFarm told asked.arg status × (source' ≡ source) × (sink' ≡ sink))
-      ⊎ FarmedBy told asked (left source) (left source') (taken sink) (taken sink') status
+      (NoFarm known asked.arg status × (source' ≡ source) × (sink' ≡ sink))
+      ⊎ FarmedBy known asked (left source) (left source') (taken sink) (taken sink') status

@@ -29,7 +29,7 @@ is_refusal _ = false
 
 -- the name is that of a text of at most 1,048,576 bytes
 pub record IsThere (files : Files) (name text : List ℕ) : Type 0 where
-  pub is_told : file_at files name ≡ Some text
+  pub is_known : file_at files name ≡ Some text
   pub fits : length text ≤ most_text
 
 -- the words ask for a run on the text of a machine, saved or not, and the text and the script keep their sizes

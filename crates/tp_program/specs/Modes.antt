@@ -13,14 +13,14 @@ use Rattle.tp_program.specs.SaveEnds.{SaveEnds}
 use Rattle.tp_program.specs.SoakEnds.{SoakEnds}
 use Rattle.tp_program.specs.declared.status.Status.{Status}
 
-module _ {S K : Type 0} (left : S → Option (List ℕ)) (taken : K → Option (List ℕ)) (told : Option Files) (source source' : S) (sink sink' : K) where
+module _ {S K : Type 0} (left : S → Option (List ℕ)) (taken : K → Option (List ℕ)) (known : Option Files) (source source' : S) (sink sink' : K) where
   abbrev pub EndsAs : Mode → Asked → Status → Type 0
-  EndsAs Run asked status = RunEnds left taken told source source' sink sink' asked status
-  EndsAs Save asked status = SaveEnds left taken told source source' sink sink' asked status
-  EndsAs Resume asked status = ResumeEnds left taken told source source' sink sink' asked status
-  EndsAs Compose asked status = ComposeEnds taken told source source' sink sink' asked status
-  EndsAs Farm asked status = FarmEnds left taken told source source' sink sink' asked status
-  EndsAs Check asked status = CheckEnds left taken told source source' sink sink' asked status
+  EndsAs Run asked status = RunEnds left taken known source source' sink sink' asked status
+  EndsAs Save asked status = SaveEnds left taken known source source' sink sink' asked status
+  EndsAs Resume asked status = ResumeEnds left taken known source source' sink sink' asked status
+  EndsAs Compose asked status = ComposeEnds taken known source source' sink sink' asked status
+  EndsAs Farm asked status = FarmEnds left taken known source source' sink sink' asked status
+  EndsAs Check asked status = CheckEnds left taken known source source' sink sink' asked status
   EndsAs Soak asked status = SoakEnds taken source source' sink sink' asked status
 
   abbrev pub Ends : Asked → Status → Type 0

@@ -21,40 +21,40 @@ abbrev pub most_snapshot : ℕ
 most_snapshot = 134217728
 
 -- a text of at most 134,217,728 bytes of which P holds; it is the one of this name, where the shelf tells it
-pub record IsSaved (told : Option Files) (name : List ℕ) (P : List ℕ → Type 0) : Type 0 where
+pub record IsSaved (known : Option Files) (name : List ℕ) (P : List ℕ → Type 0) : Type 0 where
   pub text : List ℕ
-  pub is_told : IfSome told (λ files. file_at files name ≡ Some text)
+  pub is_known : IfSome known (λ files. file_at files name ≡ Some text)
   pub fits : length text ≤ most_snapshot
   pub has : P text
 
 -- the text of this name has more bytes
 abbrev pub IsLongSnapshot : Option Files → List ℕ → Type 0
-IsLongSnapshot told name = IfSome told (λ files. IsSomeAnd (file_at files name) (λ text. most_snapshot < length text))
+IsLongSnapshot known name = IfSome known (λ files. IsSomeAnd (file_at files name) (λ text. most_snapshot < length text))
 
 -- why there is no snapshot of this name. That the shelf failed, its counts say
 abbrev pub NoSnapshot : Option Files → List ℕ → Status → Type 0
-NoSnapshot told name Memory = Unit {0}
-NoSnapshot told name Shelf = Unit {0}
-NoSnapshot told name (TooLong SnapshotText) = IsLongSnapshot told name
-NoSnapshot told name (Snapshot NotJson) = IsSaved told name IsNotJson
-NoSnapshot told name (Snapshot (Rule n)) = IsSaved told name (IsBrokenAt n)
-NoSnapshot told name _ = ⊥
+NoSnapshot known name Memory = Unit {0}
+NoSnapshot known name Shelf = Unit {0}
+NoSnapshot known name (TooLong SnapshotText) = IsLongSnapshot known name
+NoSnapshot known name (Snapshot NotJson) = IsSaved known name IsNotJson
+NoSnapshot known name (Snapshot (Rule n)) = IsSaved known name (IsBrokenAt n)
+NoSnapshot known name _ = ⊥
 
 -- the name is that of a snapshot, which tells a machine and a sound standing; and what the run did, with the budget of the words, or
 -- else the machine's, and with bounds where the words ask for them. It did so from the state that the standing tells, and from
 -- every state that has this as its live part, past included
-pub record ResumesOn (told : Option Files) (asked : Asked) (left left' taken taken' : Option (List ℕ)) (status : Status) : Type 0 where
+pub record ResumesOn (known : Option Files) (asked : Asked) (left left' taken taken' : Option (List ℕ)) (status : Status) : Type 0 where
   pub machine : Machine
   pub standing : kept.Standing
-  pub snapshot : IsSaved told asked.arg (λ text. IsSnapshot text machine standing)
+  pub snapshot : IsSaved known asked.arg (λ text. IsSnapshot text machine standing)
   pub sound : IsSound machine standing
   pub whole : IsWhole machine (standing_state machine standing) (standing_state machine standing)
   pub did : (start : SessionState) → IsWhole machine start (standing_state machine standing)
       → EndsOn machine (unwrap_or asked.budget machine.budget) asked.bounds start left left' taken taken' status
 
 -- how it ends: there is no snapshot, and nothing is read or written; or it ran
-module _ {S K : Type 0} (left : S → Option (List ℕ)) (taken : K → Option (List ℕ)) (told : Option Files) (source source' : S) (sink sink' : K) where
+module _ {S K : Type 0} (left : S → Option (List ℕ)) (taken : K → Option (List ℕ)) (known : Option Files) (source source' : S) (sink sink' : K) where
   abbrev pub ResumeEnds : Asked → Status → Type 0
   ResumeEnds asked status =
-      (NoSnapshot told asked.arg status × (source' ≡ source) × (sink' ≡ sink))
-      ⊎ ResumesOn told asked (left source) (left source') (taken sink) (taken sink') status
+      (NoSnapshot known asked.arg status × (source' ≡ source) × (sink' ≡ sink))
+      ⊎ ResumesOn known asked (left source) (left source') (taken sink) (taken sink') status

@@ -18,7 +18,7 @@ pub record IsResumeInOrder (words : List (List ℕ)) (files : Files) (script : L
   pub named : form words ≡ Some asked
   pub mode : asked.mode ≡ Resume
   pub text : List ℕ
-  pub is_told : file_at files asked.arg ≡ Some text
+  pub is_known : file_at files asked.arg ≡ Some text
   pub fits : length text ≤ most_snapshot
   pub machine : Machine
   pub standing : kept.Standing

@@ -18,12 +18,12 @@ use Rattle.tp_program.specs.declared.status.Status.TheVariants.{Done, Memory, Ma
 
 -- why there is no machine of this name
 abbrev pub NoMachine : Option Files → List ℕ → Status → Type 0
-NoMachine told name Memory = Unit {0}
-NoMachine told name Shelf = Unit {0}
-NoMachine told name (TooLong MachineText) = IsLongText told name
-NoMachine told name (MachineIs NotToml) = IsShelved told name IsNotToml
-NoMachine told name (MachineIs (Rule n)) = IsShelved told name (IsBrokenAt n)
-NoMachine told name _ = ⊥
+NoMachine known name Memory = Unit {0}
+NoMachine known name Shelf = Unit {0}
+NoMachine known name (TooLong MachineText) = IsLongText known name
+NoMachine known name (MachineIs NotToml) = IsShelved known name IsNotToml
+NoMachine known name (MachineIs (Rule n)) = IsShelved known name (IsBrokenAt n)
+NoMachine known name _ = ⊥
 
 -- how the answering of a script ends that has begun: all was done, or it stopped for the cause that the status tells
 abbrev pub EndsBy : Type 0 → (Stop → Type 0) → Status → Type 0
@@ -35,7 +35,7 @@ EndsBy all stops (TooLong (Line n)) = stops (stop.Line n)
 EndsBy all stops (TooLong Lines) = stops stop.Lines
 EndsBy all stops _ = ⊥
 
--- on a machine, with this budget and with bounds or without, from this state on: what the source told before and after, and what
+-- on a machine, with this budget and with bounds or without, from this state on: what is left of the source before and after, and what
 -- the sink had taken before and after
 module _ (machine : Machine) (budget : ℕ) (bounds : Bool) (start : SessionState) (left left' taken taken' : Option (List ℕ)) where
   -- the script that the source gave was answered on the machine by a lawful run, and the text of its one log was written
@@ -69,18 +69,18 @@ module _ (machine : Machine) (budget : ℕ) (bounds : Bool) (left left' taken ta
 
 -- the name is that of a machine's text, and the run on it with the budget of the words, or else the machine's, and with
 -- bounds where the words ask for them, did this
-pub record RunsOn (told : Option Files) (asked : Asked) (Did : Machine → ℕ → Bool → Type 0) : Type 0 where
+pub record RunsOn (known : Option Files) (asked : Asked) (Did : Machine → ℕ → Bool → Type 0) : Type 0 where
   pub machine : Machine
-  pub text : IsShelved told asked.arg (λ text. IsMachineText text machine)
+  pub text : IsShelved known asked.arg (λ text. IsMachineText text machine)
   pub did : Did machine (unwrap_or asked.budget machine.budget) asked.bounds
 
 abbrev pub RanBy : Option Files → Asked → Option (List ℕ) → Option (List ℕ) → Option (List ℕ) → Option (List ℕ) → Status → Type 0
-RanBy told asked left left' taken taken' status =
-    RunsOn told asked (λ machine budget bounds. EndsPromised machine budget bounds left left' taken taken' status)
+RanBy known asked left left' taken taken' status =
+    RunsOn known asked (λ machine budget bounds. EndsPromised machine budget bounds left left' taken taken' status)
 
 -- how a run ends: there is no machine, and nothing is read or written; or it ran
-module _ {S K : Type 0} (left : S → Option (List ℕ)) (taken : K → Option (List ℕ)) (told : Option Files) (source source' : S) (sink sink' : K) where
+module _ {S K : Type 0} (left : S → Option (List ℕ)) (taken : K → Option (List ℕ)) (known : Option Files) (source source' : S) (sink sink' : K) where
   abbrev pub RunEnds : Asked → Status → Type 0
   RunEnds asked status =
-      (NoMachine told asked.arg status × (source' ≡ source) × (sink' ≡ sink))
-      ⊎ RanBy told asked (left source) (left source') (taken sink) (taken sink') status
+      (NoMachine known asked.arg status × (source' ≡ source) × (sink' ≡ sink))
+      ⊎ RanBy known asked (left source) (left source') (taken sink) (taken sink') status

@@ -40,7 +40,7 @@ module _ (machine : Machine) (budget : ℕ) (bounds : Bool) where
     pub line : List ℕ
     pub saved : IsSavedLine machine (standing_of machine live) line
 
-  -- what the source told before and after, and what the sink had taken before and after
+  -- what is left of the source before and after, and what the sink had taken before and after
   module _ (left left' taken taken' : Option (List ℕ)) where
     -- the script that the source gave was answered, and the text of its one log was written, and then the line
     abbrev pub SaveDone : Type 0
@@ -61,12 +61,12 @@ module _ (machine : Machine) (budget : ℕ) (bounds : Bool) where
     SavesOn status = EndsBy (SaveDone × IsAtEnd left left') SaveStops status
 
 abbrev pub SavedBy : Option Files → Asked → Option (List ℕ) → Option (List ℕ) → Option (List ℕ) → Option (List ℕ) → Status → Type 0
-SavedBy told asked left left' taken taken' status =
-    RunsOn told asked (λ machine budget bounds. SavesOn machine budget bounds left left' taken taken' status)
+SavedBy known asked left left' taken taken' status =
+    RunsOn known asked (λ machine budget bounds. SavesOn machine budget bounds left left' taken taken' status)
 
 -- how it ends: there is no machine, and nothing is read or written; or it ran
-module _ {S K : Type 0} (left : S → Option (List ℕ)) (taken : K → Option (List ℕ)) (told : Option Files) (source source' : S) (sink sink' : K) where
+module _ {S K : Type 0} (left : S → Option (List ℕ)) (taken : K → Option (List ℕ)) (known : Option Files) (source source' : S) (sink sink' : K) where
   abbrev pub SaveEnds : Asked → Status → Type 0
   SaveEnds asked status =
-      (NoMachine told asked.arg status × (source' ≡ source) × (sink' ≡ sink))
-      ⊎ SavedBy told asked (left source) (left source') (taken sink) (taken sink') status
+      (NoMachine known asked.arg status × (source' ≡ source) × (sink' ≡ sink))
+      ⊎ SavedBy known asked (left source) (left source') (taken sink) (taken sink') status

@@ -26,7 +26,7 @@ pub(crate) fn find_machine<H: Shelf>(
         → Rises (H.faults shelf.old) (H.faults shelf.new)) }
     ensures amiss { IfErr result (λ s. s ≡ Status.Shelf → IfSome (H.known shelf.old) (λ files.
         IsSome (file_at files name.now) → Rises (H.amiss shelf.old) (H.amiss shelf.new))) }
-    ensures told_stays { H.known shelf.new ≡ H.known shelf.old }
+    ensures known_stays { H.known shelf.new ≡ H.known shelf.old }
     ensures counted { IsCounted (H.faults shelf.old) (H.faults shelf.new) }
     ensures not_amiss { OnOk result (IfSome (H.known shelf.old)
         (λ _. H.amiss shelf.new ≡ H.amiss shelf.old)) }

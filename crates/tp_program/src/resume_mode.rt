@@ -24,7 +24,7 @@ const MOST_BYTES: usize = 134_217_728;
 
 /// Reads the bytes of this name. An `Err` is the status that all ends with.
 fn find_bytes<H: Shelf>(alloc: Global, shelf: &mut H, name: &str) -> Result<Vec<u8>, Status>
-    ensures told { IfOk result (λ text. IfSome (H.known shelf.old)
+    ensures known { IfOk result (λ text. IfSome (H.known shelf.old)
         (λ files. file_at files name.now ≡ Some text.items)) }
     ensures fits { IfOk result (λ text. length text.items ≤ most_snapshot) }
     ensures none { IfErr result (NoSnapshot (H.known shelf.old) name.now) }

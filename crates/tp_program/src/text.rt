@@ -17,7 +17,7 @@ pub(crate) fn find_text<H: Shelf>(
     shelf: &mut H,
     name: &str,
 ) -> Result<Vec<u8>, Status>
-    ensures told { IfOk result (λ text. IfSome (H.known shelf.old)
+    ensures known { IfOk result (λ text. IfSome (H.known shelf.old)
         (λ files. file_at files name.now ≡ Some text.items)) }
     ensures fits { IfOk result (λ text. length text.items ≤ most_text) }
     ensures none { IfErr result (NoText (H.known shelf.old) name.now) }
@@ -25,7 +25,7 @@ pub(crate) fn find_text<H: Shelf>(
         → Rises (H.faults shelf.old) (H.faults shelf.new)) }
     ensures amiss { IfErr result (λ s. s ≡ Status.Shelf → IfSome (H.known shelf.old) (λ files.
         IsSome (file_at files name.now) → Rises (H.amiss shelf.old) (H.amiss shelf.new))) }
-    ensures told_stays { H.known shelf.new ≡ H.known shelf.old }
+    ensures known_stays { H.known shelf.new ≡ H.known shelf.old }
     ensures counted { IsCounted (H.faults shelf.old) (H.faults shelf.new) }
     ensures not_amiss { OnOk result (IfSome (H.known shelf.old)
         (λ _. H.amiss shelf.new ≡ H.amiss shelf.old)) }

@@ -21,8 +21,8 @@ use tp_schedule::Schedule;
 const LAST_TICK: Tick = 1_000_000_000;
 
 /// Moves the clock from one moment to another: releases each action that starts within the machine's lead of the new one,
-/// forgets the plans that are not live then, and answers with what is told, by moment. What it asks of the schedule holds
-/// again at the new moment. Takes the time of all points, and of a sort of what is told.
+/// forgets the plans that are not live then, and returns the records, by moment. What it asks of the schedule holds
+/// again at the new moment. Takes the time of all points, and of a sort of the records.
 pub fn advance(
     alloc: Global,
     machine: &Machine,

@@ -1,4 +1,4 @@
-//! What is told, by moment.
+//! Records by moment.
 
 ghost use Rattle.std.specs.Prelude.{◌≡◌, map, OnOk, IfOk};
 ghost use Rattle.tp_event_rules.specs.Clock.{by_moment};
@@ -8,7 +8,7 @@ use std::marker::Model;
 use tp_base::{Memory, Tick};
 use tp_event_rules::Tell;
 
-/// What is told, with the moment at which it stands.
+/// A record, with the moment at which it stands.
 #[derive(Drop)]
 pub(crate) struct Dated {
     pub(crate) at: Tick,
@@ -24,7 +24,7 @@ impl Model for Dated {
     ghost view = { λ d. record { at = d.at; tell = d.tell } };
 }
 
-/// Sorts by moment. What is told at one moment keeps its order.
+/// Sorts by moment. Records of one moment keep their order.
 pub(crate) fn sort_by_moment(told: &mut Vec<Dated>) -> Result<(), Memory>
     ensures { OnOk result (told.new.items ≡ by_moment told.old.items) }
 {
@@ -32,7 +32,7 @@ pub(crate) fn sort_by_moment(told: &mut Vec<Dated>) -> Result<(), Memory>
     Ok(())
 }
 
-/// What is told, without the moments.
+/// The records without the moments.
 pub(crate) fn undated(alloc: Global, told: &[Dated]) -> Result<Vec<Tell>, Memory>
     ensures { IfOk result (λ tells. tells.items ≡ map (λ t. t.tell) told.now) }
 {

@@ -1,4 +1,4 @@
-//! The clock moves: what is told of it, which actions are released, and which plans go.
+//! The clock moves: its records, which actions are released, and which plans go.
 #![tactic(auto)]
 
 mod clock_advance;

@@ -132,7 +132,7 @@ fn tell_all_releases(
     Ok(())
 }
 
-/// What is told as the clock moves from the one moment to the other, by moment.
+/// The records as the clock moves from the one moment to the other, by moment.
 pub(crate) fn tells_until(
     alloc: Global,
     machine: &Machine,

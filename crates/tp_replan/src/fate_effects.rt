@@ -59,7 +59,7 @@ fn wait_all(schedule: &Schedule, lines: &mut Lines, fates: &[Fate]) -> Result<()
     Ok(())
 }
 
-/// Each copy that has a plan meets its fate. Nothing is told of it here.
+/// Each copy that has a plan meets its fate. It appends no record.
 ///
 /// After an error nothing is known of the state, so that the caller drops it.
 pub(crate) fn befall(alloc: Global, state: &mut LiveState, fates: &[Fate]) -> Result<(), Memory>

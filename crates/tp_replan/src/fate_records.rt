@@ -1,4 +1,4 @@
-//! What is told of the fates of copies.
+//! The records of the fates of copies.
 
 ghost use Rattle.std.specs.Prelude.{◌≡◌, ◌<◌, ◌++◌, length, All, OnOk};
 ghost use Rattle.tp_schedule.specs.Plans.{IsFormed};
@@ -38,7 +38,7 @@ fn tell_recalls(
     Ok(())
 }
 
-/// Notes what is told behind the recalls.
+/// Appends the records behind the recalls.
 fn tell_end(lines: &Lines, plan: &Plan, fate: Fate, notes: &mut Vec<Record>) -> Result<(), Memory>
     requires known { IsKnown lines.now.jobs plan.now }
     requires next { HasNextCopy plan.now.sheet }
@@ -61,7 +61,7 @@ fn tell_end(lines: &Lines, plan: &Plan, fate: Fate, notes: &mut Vec<Record>) -> 
     Ok(())
 }
 
-/// Notes what is told of a copy that has the fate.
+/// Appends the records of a copy that has the fate.
 pub(crate) fn tell_fate(
     lines: &Lines,
     now: Tick,
@@ -89,7 +89,7 @@ pub(crate) fn tell_fate(
     }
 }
 
-/// Notes what is told of all copies, each of which has its fate.
+/// Appends the records of all copies, each of which has its fate.
 pub(crate) fn tell_fates(
     state: &LiveState,
     fates: &[Fate],

@@ -37,7 +37,7 @@ fn tell_drop(lines: &Lines, copy: SheetId, notes: &mut Vec<Record>) -> Result<()
     Ok(())
 }
 
-/// Whether a copy which waited is told of before the plan at the place.
+/// Whether the records of a copy which waited stand before those of the plan at the place.
 fn is_copy_next(copies: &[SheetId], next: usize, schedule: &Schedule, at: u32) -> bool
     ensures { result ≡ is_copy_next (drop next copies.now) (drop at schedule.now.plans) }
 {
@@ -50,7 +50,7 @@ fn is_copy_next(copies: &[SheetId], next: usize, schedule: &Schedule, at: u32) -
     !is_earlier(schedule.plan_at(at).sheet, copies[next])
 }
 
-/// Notes what is told of the copies which waited, and of all plans, in the order of copies.
+/// Appends the records of the copies which waited, and of all plans, in the order of copies.
 fn tell_by_copy(
     state: &LiveState,
     copies: &[SheetId],

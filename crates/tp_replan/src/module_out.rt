@@ -89,7 +89,7 @@ fn displaced_by(
     Ok(copies)
 }
 
-/// Notes what is told of the outage itself: first of the lost copies, then of the others.
+/// Appends the records of the outage itself: first those of the lost copies, then those of the others.
 fn tell_outage(
     alloc: Global,
     state: &LiveState,

@@ -25,7 +25,7 @@ use Rattle.tp_stream.specs.Takes.{ends_whole}
 use Rattle.tp_stream.proofs.Lines.{ends_append, ends_line}
 use Rattle.tp_stream.specs.Tellers.{TellsAll}
 use Rattle.tp_run_laws.specs.EventRuns.{EventsAreLawful, TellsEvent, TurnsTellLines}
-use Rattle.tp_run_laws.specs.GoingOn.{EventsGoOn, FirstRunsAreLawful, LinesGoOn, RunsJoin}
+use Rattle.tp_run_laws.specs.Continuations.{EventsGoOn, FirstRunsAreLawful, LinesGoOn, RunsJoin}
 use Rattle.tp_run_laws.specs.Runs.{entry_of, items_in, items_of, run_text, spent_by, tree_claims}
 use Rattle.tp_run_laws.proofs.TreePlaces.{in_place}
 use Rattle.tp_run_laws.specs.Wholes.{IsWhole, LinesAreLawful, TellsLine, TellsTurn}

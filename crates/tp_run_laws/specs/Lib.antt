@@ -3,7 +3,7 @@ pub mod CarriedTurns
 pub mod Wholes
 pub mod EventRuns
 pub mod Ends
-pub mod GoingOn
+pub mod Continuations
 pub mod Told
 pub mod Proved
 pub mod Promised

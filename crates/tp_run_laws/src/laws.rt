@@ -4,7 +4,7 @@ ghost use Rattle.std.specs.Prelude.{ℕ, Bool};
 ghost use Rattle.tp_machine.specs.declared.machine.Machine.{Machine};
 ghost use Rattle.tp_run_laws.specs.CarriedTurns.{RightTurns, TreesHaveLines};
 ghost use Rattle.tp_run_laws.specs.EventRuns.{EventsAreLawful, TurnsTellLines};
-ghost use Rattle.tp_run_laws.specs.GoingOn.{EventsGoOn, FirstRunsAreLawful, LinesGoOn, RunsJoin};
+ghost use Rattle.tp_run_laws.specs.Continuations.{EventsGoOn, FirstRunsAreLawful, LinesGoOn, RunsJoin};
 ghost use Rattle.tp_run_laws.specs.Ends.{ScriptsAreLawful, StopsAreLawful};
 ghost use Rattle.tp_run_laws.specs.Promised.{AnswersKeepPromises, LawfulRunsKeepPromises, StopsKeepPromises};
 ghost use Rattle.tp_run_laws.specs.Told.{LiveTurnsHaveLines, TurnsHaveLines};
@@ -25,7 +25,7 @@ pub fn live_turns_are_whole<P: Planner>()
     ensures { (machine : Machine) → TurnsOnWhole P.rules machine }
 {}
 
-/// Each record of a turn has a line, whatever the state and the event: a plan that is told has an action and one point more
+/// Each record of a turn has a line, whatever the state and the event: the plan of a record has an action and one point more
 /// than actions, and a move has at least two points.
 pub fn turns_have_lines<P: Planner>()
     ensures whole { (machine : Machine)

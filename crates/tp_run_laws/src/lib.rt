@@ -1,4 +1,4 @@
-//! Lawful runs: what a run of the program is, its text, and why what is told of live parts is told of the whole.
+//! Lawful runs: what a run of the program is, its text, and why the records of live parts are those of the whole.
 #![tactic(auto)]
 
 mod laws;

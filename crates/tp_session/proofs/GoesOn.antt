@@ -21,7 +21,7 @@ use Rattle.tp_event_turn.proofs.LiveFacts.{lost-part}
 use Rattle.tp_session_standing.specs.Sound.{IsSound}
 use Rattle.tp_session_standing.specs.StandingStates.{refill_at, standing_state, standing_refills}
 use Rattle.tp_session_standing.proofs.GoesOn.{goes-on}
-use Rattle.tp_run_laws.specs.GoingOn.{GoesOn}
+use Rattle.tp_run_laws.specs.Continuations.{GoesOn}
 use Rattle.tp_run_laws.specs.Wholes.{IsWhole}
 use Rattle.tp_run_laws.proofs.Lawful.{events_go_on}
 use Rattle.tp_session.specs.Sessions.{Standing, Tells}

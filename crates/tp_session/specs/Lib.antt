@@ -1,7 +1,7 @@
 pub mod Kept
 pub mod Laws
 pub mod Sessions
-pub mod GoingOn
+pub mod Continuations
 pub mod SessionEnds
 pub mod Texts
 pub mod Probes

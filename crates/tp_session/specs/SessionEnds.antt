@@ -7,7 +7,7 @@ use Rattle.tp_script.specs.Lines.{line_event}
 use Rattle.tp_stream.specs.Scripts.{AnswersLine, line_bytes, most_lines}
 use Rattle.tp_stream.specs.Takes.{FitsIn, IsWritten, TakesAll, place_of}
 use Rattle.tp_event_rules.specs.States.{SessionState, empty_state}
-use Rattle.tp_run_laws.specs.GoingOn.{GoesOn}
+use Rattle.tp_run_laws.specs.Continuations.{GoesOn}
 use Rattle.tp_session.specs.Sessions.{Standing, Tells, start_of}
 use Rattle.tp_session_standing.specs.Sound.{IsSound}
 use Rattle.tp_session_standing.specs.StandingStates.{standing_of, standing_state}

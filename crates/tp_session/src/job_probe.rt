@@ -67,7 +67,7 @@ fn make_ask(machine: &Machine, state: &LiveState, name: Name, want: Sheet, tray:
     }
 }
 
-/// The ask for the first sheet of this job, or what is told without one.
+/// The ask for the first sheet of this job, or the answer without one.
 fn ask_for_job(
     machine: &Machine,
     state: &LiveState,
@@ -97,7 +97,7 @@ fn ask_for_job(
     Ok(make_ask(machine, state, *name, first_sheet(*media, groups), loc))
 }
 
-/// The ask for the first sheet of the job, or what is told without one: the event is no job or would be refused, a copy of
+/// The ask for the first sheet of the job, or the answer without one: the event is no job or would be refused, a copy of
 /// its line waits, or 256 copies are live.
 pub(crate) fn first_ask(machine: &Machine, state: &LiveState, event: &Event) -> Result<Ask, Probe>
     requires can { CanTakeEvents machine.now last_copy (seen state.now) }

@@ -4,7 +4,7 @@ ghost use Rattle.std.specs.Prelude.{ℕ, Bool, Option};
 ghost use Rattle.tp_machine.specs.declared.machine.Machine.{Machine};
 ghost use Rattle.tp_run_laws.specs.CarriedTurns.{KeepsNodes, ShowsTrees};
 ghost use Rattle.tp_session.specs.SessionEnds.{ScriptsEndSoundly};
-ghost use Rattle.tp_session.specs.GoingOn.{EmptyIsWhole, ScriptsGoOn, SessionsGoOn, StopsGoOn, ToldIsWhole};
+ghost use Rattle.tp_session.specs.Continuations.{EmptyIsWhole, ScriptsGoOn, SessionsGoOn, StopsGoOn, ToldIsWhole};
 ghost use Rattle.tp_session.specs.Sessions.{SessionsLawful, SessionsStandSoundly, SessionsStopLawful, SessionsTellLawful, SessionsTellLines};
 ghost use Rattle.tp_event_rules.specs.Planners.{right_steps};
 ghost use Rattle.tp_event_turn.specs.LiveTurns.{AnswersAlone, SettlesRightly};

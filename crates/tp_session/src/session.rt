@@ -181,7 +181,7 @@ impl<N: Network> SessionOver<N> {
     }
 
     /// What an ask for the first sheet of the job would give in the schedule as it stands; that a copy of the job's line waits, or that
-    /// 256 copies are live; or that the event would be refused, as one that is no job is told too. Nothing changes but the board
+    /// 256 copies are live; or that the event would be refused; the answer to an event that is no job is the same. Nothing changes but the board
     /// that asks are answered on. It takes no memory.
     pub fn probe(&mut self, event: &Event) -> Result<Probe, Memory>
         requires echoed { IsEchoed event.now }

@@ -5,6 +5,6 @@
 pub struct Settings {
     /// How many lists of choices an ask may store, 1 to 200,000; None for the machine's number.
     pub budget: Option<u32>,
-    /// Whether each plan and each none is told with a tree that proves it.
+    /// Whether each plan and each none is followed by a tree that proves it.
     pub bounds: bool,
 }

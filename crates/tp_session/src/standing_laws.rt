@@ -22,7 +22,7 @@ pub fn turns_keep_sound<P: Planner>()
         (right_steps P.rules machine) machine }
 {}
 
-/// A live state that can be saved stands where it is sound to go on from, and what is told of that is the state itself.
+/// A live state that can be saved stands where it is sound to go on from, and that standing denotes the state itself.
 pub fn kept_states_stand_soundly()
     ensures sound { StandsSoundly }
     ensures told { StandsAsTold }

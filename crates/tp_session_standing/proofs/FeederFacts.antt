@@ -7,7 +7,7 @@ use Rattle.std.proofs.lemmas.Bool.{eq-eqb, ne_eqb}
 use Rattle.std.proofs.lemmas.Int.{ints}
 use Rattle.std.proofs.lemmas.List.Elements.{All-contains}
 use Rattle.tp_machine.proofs.MachineFacts.{is_machine}
-use Rattle.tp_machine.proofs.RisingNames.{rising_names_differ}
+use Rattle.tp_machine.proofs.SortedNames.{rising_names_differ}
 use Rattle.tp_machine.specs.Rules.{name_in}
 use Rattle.tp_machine.specs.declared.machine.Machine.{Machine}
 use Rattle.tp_machine.specs.declared.parts.Feeder.{Feeder}

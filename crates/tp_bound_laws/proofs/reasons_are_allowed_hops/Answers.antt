@@ -1,4 +1,4 @@
-use Rattle.tp_bound_laws.proofs.AllowingLines.{hops_allowed}
+use Rattle.tp_bound_laws.proofs.AllowedLineHops.{hops_allowed}
 use Rattle.tp_bound_laws.proofs.HopsTold.{hops_told}
 use Rattle.tp_bound_laws.proofs.reasons_are_allowed_hops.Goals as goal
 

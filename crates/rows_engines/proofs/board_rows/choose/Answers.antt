@@ -1,5 +1,5 @@
 use Rattle.std.proofs.Common.{arith}
-use Rattle.rows_engines.proofs.AskingFacts.{can_go_on, can_place}
+use Rattle.rows_engines.proofs.AskFacts.{can_go_on, can_place}
 use Rattle.rows_engines.proofs.board_rows.choose.Goals as goal
 
 pub open_action-requires-clause-ready : goal.open_action-requires-clause-ready

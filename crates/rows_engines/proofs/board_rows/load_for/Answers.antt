@@ -1,4 +1,4 @@
-use Rattle.rows_engines.proofs.AskingFacts.{can_ask}
+use Rattle.rows_engines.proofs.AskFacts.{can_ask}
 use Rattle.rows_engines.proofs.board_rows.load_for.Goals as goal
 
 pub load-requires-clause-can_ask : goal.load-requires-clause-can_ask

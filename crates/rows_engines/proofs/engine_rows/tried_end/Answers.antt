@@ -1,5 +1,5 @@
 use Rattle.std.proofs.Common.{rules}
-use Rattle.rows_engines.proofs.TryingFacts.{ready-back}
+use Rattle.rows_engines.proofs.TrialFacts.{ready-back}
 use Rattle.rows_engines.proofs.engine_rows.tried_end.Goals as goal
 
 pub returns-in-Ok-clause-ready : goal.returns-in-Ok-clause-ready

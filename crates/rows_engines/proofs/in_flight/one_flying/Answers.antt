@@ -1,5 +1,5 @@
 use Rattle.std.proofs.Common.{◌≡◌, ◌<◌, ◌≤◌, length, ◌∙◌, arith}
-use Rattle.rows_engines.proofs.FlyingFacts.{plan_on-front}
+use Rattle.rows_engines.proofs.InFlightFacts.{plan_on-front}
 use Rattle.rows_engines.proofs.in_flight.one_flying.Goals as goal
 
 pub returns : goal.returns

@@ -4,7 +4,7 @@ use Rattle.tp_schedule.specs.Routes.{IsStart, walk}
 use Rattle.tp_schedule.specs.declared.parts.Ask.{Ask}
 use Rattle.tp_schedule.specs.declared.parts.Origin.TheVariants.{Front as FromFront}
 use Rattle.rows_engines.specs.Flights.{ask_after}
-use Rattle.rows_engines.proofs.FlyingFacts.{can_ask-front}
+use Rattle.rows_engines.proofs.InFlightFacts.{can_ask-front}
 use Rattle.rows_engines.proofs.in_flight.rest_of.Goals as goal
 
 pub returns-clause-can_ask : goal.returns-clause-can_ask

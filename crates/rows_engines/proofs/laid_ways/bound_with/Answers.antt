@@ -1,4 +1,4 @@
-use Rattle.rows_engines.proofs.LayingFacts.{laid-marked, laid-back}
+use Rattle.rows_engines.proofs.LaidWays.{laid-marked, laid-back}
 use Rattle.rows_engines.proofs.laid_ways.bound_with.Goals as goal
 
 pub lay_next-requires-clause-laid : goal.lay_next-requires-clause-laid

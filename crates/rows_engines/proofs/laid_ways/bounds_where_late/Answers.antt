@@ -1,9 +1,9 @@
 use Rattle.std.proofs.Common.{arith}
 use Rattle.tp_constraints.specs.Suffixes.{with_place}
 use Rattle.tp_placing.specs.Boards.{suffix_of}
-use Rattle.rows_engines.proofs.AskingFacts.{can_place}
-use Rattle.rows_engines.proofs.LayingFacts.{can_lay}
-use Rattle.rows_engines.proofs.TellingFacts.{is_told-reason}
+use Rattle.rows_engines.proofs.AskFacts.{can_place}
+use Rattle.rows_engines.proofs.LaidWays.{can_lay}
+use Rattle.rows_engines.proofs.ReasonFacts.{is_told-reason}
 use Rattle.rows_engines.proofs.laid_ways.bounds_where_late.Goals as goal
 
 pub open_action-requires-clause-ready : goal.open_action-requires-clause-ready

@@ -1,4 +1,4 @@
-use Rattle.rows_engines.proofs.LayingFacts.{committed}
+use Rattle.rows_engines.proofs.LaidWays.{committed}
 use Rattle.rows_engines.proofs.laid_ways.follow.Goals as goal
 
 pub returns-clause-plan_on : goal.returns-clause-plan_on

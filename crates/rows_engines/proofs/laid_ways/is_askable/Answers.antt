@@ -1,5 +1,5 @@
 use Rattle.std.proofs.Common.{◌∙◌, sym, arith}
-use Rattle.rows_engines.proofs.LayingFacts.{can_ask-few, only-live}
+use Rattle.rows_engines.proofs.LaidWays.{can_ask-few, only-live}
 use Rattle.rows_engines.proofs.laid_ways.is_askable.Goals as goal
 
 pub returns-then-len-eq0 : goal.returns-then-len-eq0

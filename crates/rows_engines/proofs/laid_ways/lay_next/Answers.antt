@@ -1,5 +1,5 @@
 use Rattle.std.proofs.Common.{arith}
-use Rattle.rows_engines.proofs.LayingFacts.{can_lay, laid-more}
+use Rattle.rows_engines.proofs.LaidWays.{can_lay, laid-more}
 use Rattle.rows_engines.proofs.laid_ways.lay_next.Goals as goal
 
 pub put-requires-clause-ready : goal.put-requires-clause-ready

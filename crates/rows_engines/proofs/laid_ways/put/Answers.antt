@@ -1,6 +1,6 @@
 use Rattle.std.proofs.Common.{arith, subst, sym}
 use Rattle.tp_placing.specs.Boards.{suffix_of}
-use Rattle.rows_engines.proofs.LayingFacts.{IsOfOne, can_put, is_put}
+use Rattle.rows_engines.proofs.LaidWays.{IsOfOne, can_put, is_put}
 use Rattle.rows_engines.proofs.laid_ways.put.Goals as goal
 
 pub place-requires-clause-next : goal.place-requires-clause-next

@@ -1,6 +1,6 @@
 use Rattle.std.proofs.Common.{arith, subst, sym}
 use Rattle.tp_placing.specs.Boards.{suffix_of}
-use Rattle.rows_engines.proofs.LayingFacts.{IsOfOne, can_lay, can_put}
+use Rattle.rows_engines.proofs.LaidWays.{IsOfOne, can_lay, can_put}
 use Rattle.rows_engines.proofs.laid_ways.tried_at.Goals as goal
 
 pub open_action-requires-clause-ready : goal.open_action-requires-clause-ready

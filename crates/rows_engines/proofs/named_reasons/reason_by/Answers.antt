@@ -1,6 +1,6 @@
 use Rattle.std.proofs.Common.{arith}
 use Rattle.tp_placing.specs.Boards.{suffix_of}
-use Rattle.rows_engines.proofs.TellingFacts.{is_told-end_reason}
+use Rattle.rows_engines.proofs.ReasonFacts.{is_told-end_reason}
 use Rattle.rows_engines.proofs.named_reasons.reason_by.Goals as goal
 
 pub refuse_end-requires-clause-below : goal.refuse_end-requires-clause-below

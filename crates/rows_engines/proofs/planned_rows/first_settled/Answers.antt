@@ -1,5 +1,5 @@
 use Rattle.std.proofs.Common.{◌≡◌, length, ◌∙◌, arith}
-use Rattle.rows_engines.proofs.LayingFacts.{can_settle-first}
+use Rattle.rows_engines.proofs.LaidWays.{can_settle-first}
 use Rattle.rows_engines.proofs.planned_rows.first_settled.Goals as goal
 
 pub settle-requires-clause-can_settle : goal.settle-requires-clause-can_settle

@@ -1,6 +1,6 @@
 use Rattle.std.proofs.Common.{subst, sym}
 use Rattle.tp_schedule.specs.PlannerAnswers.{CanPlanOn}
-use Rattle.rows_engines.proofs.AskingFacts.{plan_on-none}
+use Rattle.rows_engines.proofs.AskFacts.{plan_on-none}
 use Rattle.rows_engines.proofs.planned_rows.one_planned.Goals as goal
 
 pub plan_sheet-requires-clause-plan_on : goal.plan_sheet-requires-clause-plan_on

@@ -7,7 +7,7 @@ abbrev pub invariant-pieces : goal.invariant-pieces
 invariant-pieces g l = record {
   fits : vec_len l.text ≤ l.limit;
   counted : IsCounted (g.H.Shelf.faults l.initial.shelf) (g.H.Shelf.faults l.shelf);
-  told : g.H.Shelf.known l.shelf ≡ g.H.Shelf.known l.initial.shelf;
+  known : g.H.Shelf.known l.shelf ≡ g.H.Shelf.known l.initial.shelf;
   amiss : (files : Files) → g.H.Shelf.known l.initial.shelf ≡ Some files → g.H.Shelf.amiss l.shelf ≡ g.H.Shelf.amiss l.initial.shelf;
   part : HasPart l.text.items (g.H.Shelf.known l.initial.shelf) l.name;
 }

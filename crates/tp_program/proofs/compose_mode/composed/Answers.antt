@@ -10,7 +10,7 @@ returns-in-Err-clause-none g c = no_rack _ _ _ c.in-Err.ensures.none
 pub returns-in-Ok-compose-clause-composed : goal.returns-in-Ok-compose-clause-composed
 returns-in-Ok-compose-clause-composed g c = record {
   text = c.in-Ok.text.items;
-  is_told = c.in-Ok.ensures.told;
+  is_known = c.in-Ok.ensures.known;
   fits = c.in-Ok.ensures.fits;
   has = (
     subst IsSoundRack c.deref.ensures.value c.in-Ok-compose.ensures.sound,

@@ -1,6 +1,6 @@
 -- The farm's answers are those of a farm of sessions on the machines.
 use Rattle.tp_stream.specs.declared.stop.Stop.TheVariants.{Memory, Source, Sink, Line, Lines}
-use Rattle.tp_program.proofs.FarmingFacts.{farm_done, farm_stops}
+use Rattle.tp_program.proofs.FarmEndFacts.{farm_done, farm_stops}
 use Rattle.tp_program.proofs.farm_mode.farm_on.Goals as goal
 
 pub returns-in-Ok-clause-ends : goal.returns-in-Ok-clause-ends

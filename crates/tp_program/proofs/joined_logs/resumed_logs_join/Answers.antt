@@ -1,4 +1,4 @@
-use Rattle.tp_program.proofs.JoiningFacts.{resumed-join}
+use Rattle.tp_program.proofs.JoinedLogFacts.{resumed-join}
 use Rattle.tp_program.proofs.joined_logs.resumed_logs_join.Goals as goal
 
 pub returns : goal.returns

@@ -10,7 +10,7 @@ returns-in-Err-clause-none g c = no_machine _ _ _ c.in-Err.ensures.none
 pub returns-in-Ok-read_machine-clause-found : goal.returns-in-Ok-read_machine-clause-found
 returns-in-Ok-read_machine-clause-found g c = record {
   text = c.in-Ok.text.items;
-  is_told = c.in-Ok.ensures.told;
+  is_known = c.in-Ok.ensures.known;
   fits = c.in-Ok.ensures.fits;
   has = subst (λ text. IsMachineText text c.in-Ok-read_machine.machine) c.deref.ensures.value c.in-Ok-read_machine.ensures.ok;
 }

@@ -10,7 +10,7 @@ abbrev pub invariant-loop-place : goal.invariant-loop-place
 invariant-loop-place g l = record {
   begin : AllZip (BeginsOn (g.H.Shelf.known l.initial.shelf) l.settings.budget l.settings.bounds) (take l.place (shown l.names)) (map (λ s. s.standing) l.sessions.items);
   fresh : All (λ s. (s.text ≡ []) × (s.answered ≡ 0)) l.sessions.items;
-  told : g.H.Shelf.known l.shelf ≡ g.H.Shelf.known l.initial.shelf;
+  known : g.H.Shelf.known l.shelf ≡ g.H.Shelf.known l.initial.shelf;
   counted : IsCounted (g.H.Shelf.faults l.initial.shelf) (g.H.Shelf.faults l.shelf);
   not_amiss : IfSome (g.H.Shelf.known l.initial.shelf) (λ _. g.H.Shelf.amiss l.shelf ≡ g.H.Shelf.amiss l.initial.shelf);
 }

@@ -2,9 +2,9 @@
 use Rattle.std.proofs.Common.{◌≡◌, Err, ap}
 use Rattle.tp_session.specs.Sessions.{start_of}
 use Rattle.tp_stream.specs.declared.stop.Stop.TheVariants as stop
-use Rattle.tp_program.proofs.FarmingFacts.{rises_after}
+use Rattle.tp_program.proofs.FarmEndFacts.{rises_after}
 use Rattle.tp_program.proofs.RunFacts.{not_refused, sink_cause, source_cause}
-use Rattle.tp_program.proofs.SavingFacts.{line_sound, saves_on, saves_stopped}
+use Rattle.tp_program.proofs.SaveEndFacts.{line_sound, saves_on, saves_stopped}
 use Rattle.tp_program.proofs.save_mode.save_on.Goals as goal
 
 pub write_line-requires : goal.write_line-requires

@@ -3,7 +3,7 @@ use Rattle.std.proofs.Common.{subst, sym}
 use Rattle.std.proofs.lemmas.Result.{IfOk-weaker}
 use Rattle.tp_session_standing.specs.Sound.{IsSound}
 use Rattle.tp_session_standing.specs.StandingStates.{standing_of}
-use Rattle.tp_program.proofs.SavingFacts.{line-saved}
+use Rattle.tp_program.proofs.SaveEndFacts.{line-saved}
 use Rattle.tp_program.proofs.save_mode.saved_line.Goals as goal
 
 pub write_snapshot-requires : goal.write_snapshot-requires

@@ -1,5 +1,5 @@
 -- The line is made and written, or not.
-use Rattle.tp_program.proofs.SavingFacts.{wrote_part, wrote_whole}
+use Rattle.tp_program.proofs.SaveEndFacts.{wrote_part, wrote_whole}
 use Rattle.tp_program.proofs.save_mode.write_line.Goals as goal
 
 pub returns-in-Ok-write_all-clause-ends : goal.returns-in-Ok-write_all-clause-ends

@@ -2,7 +2,7 @@ use Rattle.std.proofs.Common.{◌≡◌, ℕ, None, [], ap, sym, ◌∙◌, arit
 use Rattle.tp_base.specs.Padded.{padded}
 use Rattle.tp_base.proofs.PaddedFacts.{length-padded, padded-at}
 use Rattle.tp_pool.specs.Queues.{BucketQueue, head_at}
-use Rattle.tp_pool.specs.GrowingQueue.{nexts_of}
+use Rattle.tp_pool.specs.QueueGrowth.{nexts_of}
 use Rattle.tp_pool.proofs.BucketFacts.{emptied, emptied-none}
 use Rattle.tp_pool.proofs.buckets.Buckets.clear.Goals as goal
 use Rattle.tp_pool.proofs.buckets.Buckets.clear.Goals.{After-empty}

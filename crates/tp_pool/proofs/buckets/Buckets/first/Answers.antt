@@ -3,7 +3,7 @@ use Rattle.std.proofs.lemmas.Option.{none-some}
 use Rattle.tp_base.proofs.PaddedFacts.{length-padded, padded-at}
 use Rattle.tp_pool.specs.Queues.{BucketQueue, IsLeastIn, head_at}
 use Rattle.tp_pool.specs.Linked.{queued_of, IsBuckets}
-use Rattle.tp_pool.specs.GrowingQueue.{heads_of, nexts_of, IsGrowing}
+use Rattle.tp_pool.specs.QueueGrowth.{heads_of, nexts_of, IsGrowing}
 use Rattle.tp_pool.proofs.BucketFacts.{IsFirst, IsFound, moved-on, is_first, is_none, first-least, least-some}
 use Rattle.tp_pool.proofs.buckets.Buckets.first.Goals as goal
 use Rattle.tp_pool.proofs.buckets.Buckets.first.Goals.{After-link_at, In_ok-node}

@@ -4,7 +4,7 @@ use Rattle.tp_base.specs.Padded.{padded}
 use Rattle.tp_base.proofs.PaddedFacts.{length-padded, padded-at}
 use Rattle.tp_pool.specs.Queues.{Queued, BucketQueue, head_at}
 use Rattle.tp_pool.specs.Linked.{queued_of}
-use Rattle.tp_pool.specs.GrowingQueue.{heads_of, nexts_of}
+use Rattle.tp_pool.specs.QueueGrowth.{heads_of, nexts_of}
 use Rattle.tp_pool.proofs.BucketFacts.{CanPut, can_put, put-all, put-queue}
 use Rattle.tp_pool.proofs.buckets.Buckets.put.Goals as goal
 use Rattle.tp_pool.proofs.buckets.Buckets.put.Goals.{After-link_at-first}

@@ -5,7 +5,7 @@ use Rattle.std.proofs.lemmas.Option.{none-some}
 use Rattle.tp_base.proofs.PaddedFacts.{length-padded, padded-at, padded-set}
 use Rattle.tp_pool.specs.Queues.{BucketQueue, IsTaken, IsIn, head_at}
 use Rattle.tp_pool.specs.Linked.{queued_of, IsBuckets}
-use Rattle.tp_pool.specs.GrowingQueue.{heads_of, nexts_of, IsGrowing}
+use Rattle.tp_pool.specs.QueueGrowth.{heads_of, nexts_of, IsGrowing}
 use Rattle.tp_pool.proofs.BucketFacts.{IsFirst, IsFound, moved-on, is_first, is_none, head-there, take-all, take-gone, take-queue, some-taken}
 use Rattle.tp_pool.proofs.buckets.Buckets.take.Goals as goal
 use Rattle.tp_pool.proofs.buckets.Buckets.take.Goals.{After-link_at, In_ok-node, After-link_at-2}

@@ -5,7 +5,7 @@ use Rattle.std.proofs.lemmas.List.{length-set}
 use Rattle.tp_base.proofs.PaddedFacts.{length-padded, padded-at, padded-set}
 use Rattle.tp_pool.specs.Queues.{BucketQueue, Queued, IsIn, head_at}
 use Rattle.tp_pool.specs.Linked.{queued_of}
-use Rattle.tp_pool.specs.GrowingQueue.{heads_of, nexts_of}
+use Rattle.tp_pool.specs.QueueGrowth.{heads_of, nexts_of}
 use Rattle.tp_pool.proofs.BucketFacts.{head-there, head-gone, head-known, head-moved, head-queue}
 use Rattle.tp_pool.proofs.buckets.Buckets.take_of.Goals as goal
 use Rattle.tp_pool.proofs.buckets.Buckets.take_of.Goals.{In_ok-node, After-link_at-2}

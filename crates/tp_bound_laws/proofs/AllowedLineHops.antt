@@ -26,7 +26,7 @@ use Rattle.tp_bound_laws.specs.Chains.{Arrival, arrival_at, arrival_in, arrival_
 use Rattle.tp_bound_laws.specs.Places.{Branch}
 use Rattle.tp_bound_laws.specs.Told.{HopsAreAllowed, told}
 use Rattle.tp_bound_laws.proofs.AllowedHops.{least-told, most-told, named-point}
-use Rattle.tp_bound_laws.proofs.AllowingHolds.{order-allowed}
+use Rattle.tp_bound_laws.proofs.AllowedOrderHops.{order-allowed}
 use Rattle.tp_bound_laws.proofs.Lists.{number-same}
 
 -- ---- lines

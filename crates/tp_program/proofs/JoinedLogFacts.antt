@@ -12,7 +12,7 @@ use Rattle.tp_words.specs.Texts.{lines_of}
 use Rattle.tp_run_laws.proofs.Lawful.{run_text-append}
 use Rattle.tp_run_laws.specs.Ends.{IsAnswered}
 use Rattle.tp_run_laws.specs.EventRuns.{IsRunOf}
-use Rattle.tp_run_laws.specs.GoingOn.{FirstRunsAreLawful, RunsJoin}
+use Rattle.tp_run_laws.specs.Continuations.{FirstRunsAreLawful, RunsJoin}
 use Rattle.tp_run_laws.specs.Wholes.{IsWhole}
 use Rattle.tp_program.specs.JoinedLogs.{ResumedLogsJoin}
 use Rattle.tp_program.specs.SaveEnds.{HasSavedLine}

@@ -16,7 +16,7 @@ use Rattle.tp_event_rules.proofs.CutPlans.{IsLeft-cut_after}
 use Rattle.tp_event_rules.proofs.LeftPlans.{AreLeft, IsLegal-left, KeepsFloors-left, KeepsHorizon-left}
 use Rattle.tp_event_rules.proofs.LeftPlans.AreLeft.{none, more}
 use Rattle.rows_engines.specs.Flights.{IsFrontOfFew, ask_after, front_plan}
-use Rattle.rows_engines.proofs.LayingFacts.{one-only, only-live, open-goal, length-without}
+use Rattle.rows_engines.proofs.LaidWays.{one-only, only-live, open-goal, length-without}
 
 -- one plan alone
 one-plan : (plans : List Plan) (p : Plan) → length plans ≡ 1 → slice_get plans 0 ≡ Some p → plans ≡ p ∷ []

@@ -8,7 +8,7 @@ use Rattle.tp_stream.specs.Takes.{Stops, TakesAll, place_of}
 use Rattle.tp_stream.specs.declared.stop.Stop.{Stop}
 use Rattle.tp_event_rules.specs.States.{SessionState, empty_state}
 use Rattle.tp_run_laws.specs.Ends.{IsAnswered, IsAnsweredTo}
-use Rattle.tp_run_laws.specs.GoingOn.{GoesOn}
+use Rattle.tp_run_laws.specs.Continuations.{GoesOn}
 use Rattle.tp_run_laws.specs.Wholes.{IsWhole}
 use Rattle.tp_session.specs.Sessions.{Standing, Tells, start_of}
 use Rattle.tp_session_standing.specs.Sound.{IsSound}

@@ -6,7 +6,7 @@ use Rattle.tp_jobs.specs.declared.standing.Standing as kept
 use Rattle.tp_outside.specs.PartialTransfer.{IsCutShort}
 use Rattle.tp_outside.proofs.Parts.{IfSome-at, IfSome-from}
 use Rattle.tp_session.specs.SessionEnds.{ScriptEnds, ScriptsEndSoundly}
-use Rattle.tp_session.specs.GoingOn.{StopsGoOn}
+use Rattle.tp_session.specs.Continuations.{StopsGoOn}
 use Rattle.tp_session.specs.Sessions.{Standing, Tells, start_of}
 use Rattle.tp_snapshot.specs.Rules.{IsSnapshot}
 use Rattle.tp_snapshot.specs.Texts.{IsWritten as IsText}
