@@ -32,16 +32,16 @@ use Rattle.tp_bound_laws.specs.Short.{FewHopsMakeShortLines, IsOfFewHops, hops_i
 
 -- ---- words
 
-name-short : (text : List ℕ) → IsName text → length text ≤ 32
+pub name-short : (text : List ℕ) → IsName text → length text ≤ 32
 name-short text is =
     let sides = and_parts (nat_le 1 (length text) && nat_le (length text) 32) (list_all is_name_byte text) is in
     let ends = and_parts (nat_le 1 (length text)) (nat_le (length text) 32) sides.0 in
     leb-true (length text) 32 ends.1
 
-number-short : (n : ℕ) → IsNumber n → length (decimal n) ≤ 10
+pub number-short : (n : ℕ) → IsNumber n → length (decimal n) ≤ 10
 number-short n is = length-decimal-le 10 n (omega arith) (omega (arith, is)) (omega (arith, is))
 
-sheet-short : (s : SheetName) → IsSheet s → length (sheet_text s) ≤ 54
+pub sheet-short : (s : SheetName) → IsSheet s → length (sheet_text s) ≤ 54
 sheet-short s is =
     omega (arith, name-short s.job is.0, number-short s.number is.1.0, number-short s.copy is.1.1, length-append s.job (46 ∷ (decimal s.number ++ 46 ∷ decimal s.copy)), length-append (decimal s.number) (46 ∷ decimal s.copy))
 
@@ -66,11 +66,11 @@ state-short s is =
 
 -- ---- lines of words
 
-abbrev AreShort : List (List ℕ) → Type 0
+abbrev pub AreShort : List (List ℕ) → Type 0
 AreShort [] = Unit {0}
 AreShort (w ∷ ws) = (length w ≤ 164) × AreShort ws
 
-both-short : (ws more : List (List ℕ)) → AreShort ws → AreShort more → AreShort (ws ++ more)
+pub both-short : (ws more : List (List ℕ)) → AreShort ws → AreShort more → AreShort (ws ++ more)
 both-short [] more short also = also
 both-short (w ∷ ws) more (one, short) also = (one, both-short ws more short also)
 
@@ -78,7 +78,7 @@ spaces-short : (ws : List (List ℕ)) → AreShort ws → length (flat_map (λ w
 spaces-short [] short = omega arith
 spaces-short (w ∷ ws) (one, short) = omega (arith, one, spaces-short ws short, length-append (32 ∷ w) (flat_map (λ word. 32 ∷ word) ws))
 
-spaced-short : (ws : List (List ℕ)) → AreShort ws → length (spaced ws) ≤ 165 * length ws
+pub spaced-short : (ws : List (List ℕ)) → AreShort ws → length (spaced ws) ≤ 165 * length ws
 spaced-short [] short = omega arith
 spaced-short (w ∷ ws) (one, short) = omega (arith, one, spaces-short ws short, length-append w (flat_map (λ word. 32 ∷ word) ws))
 

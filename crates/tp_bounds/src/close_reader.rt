@@ -74,7 +74,7 @@ fn read_loop(alloc: Global, words: &[&[u8]]) -> Result<Option<Close>, Memory>
 }
 
 #[tactic(auto, unfolding(crate::specs::Lines::close_of))]
-pub fn read_close(alloc: Global, words: &[&[u8]]) -> Result<Option<Close>, Memory>
+pub(crate) fn read_close(alloc: Global, words: &[&[u8]]) -> Result<Option<Close>, Memory>
     requires { length words.now + 1 < 2 ^ 32 }
     ensures { IfOk result (λ close. close ≡ close_of (shown words.now)) }
 {

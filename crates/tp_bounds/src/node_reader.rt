@@ -140,7 +140,7 @@ fn read_after(alloc: Global, words: &[&[u8]]) -> Result<Option<BoundLine>, Memor
 }
 
 #[tactic(auto, unfolding(crate::specs::Lines::bound_of))]
-pub fn read_bound_words(alloc: Global, words: &[&[u8]]) -> Result<Option<BoundLine>, Memory>
+pub(crate) fn read_bound_words(alloc: Global, words: &[&[u8]]) -> Result<Option<BoundLine>, Memory>
     requires { length words.now < 2 ^ 32 }
     ensures { IfOk result (λ line. line ≡ bound_of (shown words.now)) }
 {

@@ -55,7 +55,7 @@ fn read_flags(word: &[u8]) -> Option<Flags>
 }
 
 #[tactic(auto, unfolding(crate::specs::Words::state_of, tp_words::specs::Fields::pair_of))]
-pub fn read_state(word: &[u8]) -> Option<NamedState>
+pub(crate) fn read_state(word: &[u8]) -> Option<NamedState>
     ensures { result ≡ state_of word.now }
 {
     let (place, flags) = cut(word, b':')?;
@@ -100,7 +100,7 @@ fn read_own_point(word: &[u8]) -> Option<TreePoint>
 }
 
 #[tactic(auto, unfolding(crate::specs::Words::point_of))]
-pub fn read_point(word: &[u8]) -> Option<TreePoint>
+pub(crate) fn read_point(word: &[u8]) -> Option<TreePoint>
     ensures { result ≡ point_of word.now }
 {
     if begins(word, b'*') {
@@ -192,7 +192,7 @@ fn lacks_arrow(word: &[u8]) -> bool
 
 /// One hop. A resource may be named `d` or `l`: the arrow tells.
 #[tactic(auto, unfolding(crate::specs::Words::hop_of))]
-pub fn read_hop(word: &[u8]) -> Option<Hop>
+pub(crate) fn read_hop(word: &[u8]) -> Option<Hop>
     ensures { result ≡ hop_of word.now }
 {
     if lacks_arrow(word) {

@@ -35,7 +35,7 @@ fn bit_letter(bit: bool) -> u8
     if bit { b'1' } else { b'0' }
 }
 
-pub fn put_state_word(out: &mut Vec<u8>, state: &NamedState) -> Result<(), Memory>
+pub(crate) fn put_state_word(out: &mut Vec<u8>, state: &NamedState) -> Result<(), Memory>
     ensures written { OnOk result (out.new.items ≡ out.old.items ++ 32 ∷ state_text state.now) }
     ensures spelled { OnOk result (IsName state.now.place) }
 {
@@ -63,7 +63,7 @@ fn put_point(out: &mut Vec<u8>, point: &TreePoint) -> Result<(), Memory>
     }
 }
 
-pub fn put_point_word(out: &mut Vec<u8>, point: &TreePoint) -> Result<(), Memory>
+pub(crate) fn put_point_word(out: &mut Vec<u8>, point: &TreePoint) -> Result<(), Memory>
     ensures written { OnOk result (out.new.items ≡ out.old.items ++ 32 ∷ point_text point.now) }
     ensures spelled { OnOk result (IsPoint point.now) }
 {
@@ -111,7 +111,7 @@ fn put_hop_word(out: &mut Vec<u8>, hop: &Hop) -> Result<(), Memory>
     }
 }
 
-pub fn put_hop_words(out: &mut Vec<u8>, hops: &[Hop]) -> Result<(), Memory>
+pub(crate) fn put_hop_words(out: &mut Vec<u8>, hops: &[Hop]) -> Result<(), Memory>
     ensures written { OnOk result (out.new.items ≡ out.old.items
         ++ behind_spaces (map hop_text hops.now)) }
     ensures spelled { OnOk result (All IsHop hops.now) }

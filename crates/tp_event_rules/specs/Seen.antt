@@ -35,15 +35,3 @@ HasNextCopy copy = copy.copy + 1 < 2 ^ 32
 -- a copy that is to be purged has started
 abbrev pub HasStarted : ℕ → Plan → Type 0
 HasStarted now p = IsFalse (is_to_tray p.goal) → point p 0 ≤ now
-
--- the state before a module goes out: what is kept between events of the schedule and of what waits, plans with known
--- goals and the names of their jobs, copies that can have a next one, and purges under way
-pub record CanGoOut (machine : Machine) (s : SessionState) : Type 0 where
-  pub plans : KeepsPlans machine s
-  pub least : IsLeastAt machine s
-  pub lines : KeepsLines s
-  pub named : AreNamed s.plans
-  pub goals : All (λ p. IsKnownGoal machine p.goal) s.plans
-  pub next_copies : All (λ w. HasNextCopy w.sheet) s.waiting
-  pub next_planned : All (λ p. HasNextCopy p.sheet) s.plans
-  pub purges : All (HasStarted s.now) s.plans

@@ -41,7 +41,7 @@ fn read_after(reason: CauseWord, words: &[&[u8]]) -> Option<Cause>
 }
 
 #[tactic(auto, unfolding(crate::specs::RecordReaders::cause_of))]
-pub fn read_cause(words: &[&[u8]]) -> Option<Cause>
+pub(crate) fn read_cause(words: &[&[u8]]) -> Option<Cause>
     ensures { result ≡ cause_of (shown words.now) }
 {
     let [first, others @ ..] = words else {
@@ -53,7 +53,7 @@ pub fn read_cause(words: &[&[u8]]) -> Option<Cause>
     }
 }
 
-pub fn put_cause(out: &mut Vec<u8>, cause: &Cause) -> Result<(), Memory>
+pub(crate) fn put_cause(out: &mut Vec<u8>, cause: &Cause) -> Result<(), Memory>
     ensures { OnOk result (out.new.items ≡ out.old.items
         ++ flat_map (λ word. 32 ∷ word) (cause_words cause.now)) }
 {

@@ -13,7 +13,7 @@ use tp_schedule::SheetName;
 use tp_words::{put_word, read_name, read_number};
 
 #[tactic(auto, unfolding(crate::specs::RecordReaders::goal_of))]
-pub fn read_goal(word: &[u8]) -> Option<Option<Name>>
+pub(crate) fn read_goal(word: &[u8]) -> Option<Option<Name>>
     ensures { result ≡ goal_of word.now }
 {
     if word == b"*".as_slice() {
@@ -23,7 +23,7 @@ pub fn read_goal(word: &[u8]) -> Option<Option<Name>>
 }
 
 #[tactic(auto, unfolding(crate::specs::RecordReaders::one_of))]
-pub fn only_sheet(words: &[&[u8]]) -> Option<SheetName>
+pub(crate) fn only_sheet(words: &[&[u8]]) -> Option<SheetName>
     ensures { result ≡ one_of sheet_of (shown words.now) }
 {
     let [sheet] = words else {
@@ -33,7 +33,7 @@ pub fn only_sheet(words: &[&[u8]]) -> Option<SheetName>
 }
 
 #[tactic(auto, unfolding(crate::specs::RecordReaders::one_of))]
-pub fn only_name(words: &[&[u8]]) -> Option<Name>
+pub(crate) fn only_name(words: &[&[u8]]) -> Option<Name>
     ensures { result ≡ one_of name_of (shown words.now) }
 {
     let [name] = words else {
@@ -43,7 +43,7 @@ pub fn only_name(words: &[&[u8]]) -> Option<Name>
 }
 
 #[tactic(auto, unfolding(crate::specs::RecordReaders::one_of))]
-pub fn only_number(words: &[&[u8]]) -> Option<u32>
+pub(crate) fn only_number(words: &[&[u8]]) -> Option<u32>
     ensures { result ≡ one_of number_of (shown words.now) }
 {
     let [number] = words else {
@@ -52,14 +52,14 @@ pub fn only_number(words: &[&[u8]]) -> Option<u32>
     read_number(number)
 }
 
-pub fn put_sheet_word(out: &mut Vec<u8>, sheet: &SheetName) -> Result<(), Memory>
+pub(crate) fn put_sheet_word(out: &mut Vec<u8>, sheet: &SheetName) -> Result<(), Memory>
     ensures { OnOk result (out.new.items ≡ out.old.items ++ 32 ∷ sheet_text sheet.now) }
 {
     out.push(b' ')?;
     put_sheet(out, sheet)
 }
 
-pub fn put_goal_word(out: &mut Vec<u8>, goal: &Option<Name>) -> Result<(), Memory>
+pub(crate) fn put_goal_word(out: &mut Vec<u8>, goal: &Option<Name>) -> Result<(), Memory>
     ensures { OnOk result (out.new.items ≡ out.old.items ++ 32 ∷ goal_text goal.now) }
 {
     match goal {

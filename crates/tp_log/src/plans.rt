@@ -72,7 +72,7 @@ fn read_plan_parts(
 }
 
 #[tactic(auto, unfolding(crate::specs::RecordReaders::plan_of))]
-pub fn read_plan(alloc: Global, words: &[&[u8]]) -> Result<Record, LineFault>
+pub(crate) fn read_plan(alloc: Global, words: &[&[u8]]) -> Result<Record, LineFault>
     requires { length words.now + 1 < 2 ^ 32 }
     ensures { Gives result (plan_of (shown words.now)) }
 {
@@ -109,7 +109,7 @@ fn read_move_parts(alloc: Global, sheet: &[u8], points: &[&[u8]]) -> Result<Reco
 }
 
 #[tactic(auto, unfolding(crate::specs::RecordReaders::move_of))]
-pub fn read_move(alloc: Global, words: &[&[u8]]) -> Result<Record, LineFault>
+pub(crate) fn read_move(alloc: Global, words: &[&[u8]]) -> Result<Record, LineFault>
     requires { length words.now + 1 < 2 ^ 32 }
     ensures { Gives result (move_of (shown words.now)) }
 {
@@ -120,7 +120,7 @@ pub fn read_move(alloc: Global, words: &[&[u8]]) -> Result<Record, LineFault>
 }
 
 /// Writes points and actions in turn.
-pub fn put_turns(out: &mut Vec<u8>, points: &[Tick], acts: &[Name]) -> Result<(), Memory>
+pub(crate) fn put_turns(out: &mut Vec<u8>, points: &[Tick], acts: &[Name]) -> Result<(), Memory>
     requires { length points.now ≡ length acts.now + 1 }
     ensures { OnOk result (out.new.items ≡ out.old.items
         ++ flat_map (λ word. 32 ∷ word) (turns_words points.now acts.now)) }
@@ -133,7 +133,7 @@ pub fn put_turns(out: &mut Vec<u8>, points: &[Tick], acts: &[Name]) -> Result<()
     Ok(())
 }
 
-pub fn put_points(out: &mut Vec<u8>, points: &[Tick]) -> Result<(), Memory>
+pub(crate) fn put_points(out: &mut Vec<u8>, points: &[Tick]) -> Result<(), Memory>
     ensures { OnOk result (out.new.items ≡ out.old.items
         ++ flat_map (λ word. 32 ∷ word) (map decimal points.now)) }
 {

@@ -141,7 +141,7 @@ fn read_after(alloc: Global, heading: Heading, words: &[&[u8]]) -> Result<Record
 }
 
 #[tactic(auto, unfolding(crate::specs::RecordReaders::record_of))]
-pub fn read_record(alloc: Global, words: &[&[u8]]) -> Result<Record, LineFault>
+pub(crate) fn read_record(alloc: Global, words: &[&[u8]]) -> Result<Record, LineFault>
     requires { length words.now < 2 ^ 32 }
     ensures { Gives result (record_of (shown words.now)) }
 {

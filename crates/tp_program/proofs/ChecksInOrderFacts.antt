@@ -15,6 +15,7 @@ use Rattle.tp_machine.specs.declared.machine.Machine.{Machine}
 use Rattle.tp_machine_text.specs.Texts.{IsMachineText}
 use Rattle.tp_machine_text.proofs.OneMachine.{one_of_text}
 use Rattle.tp_run_laws.specs.Runs.{items_in}
+use Rattle.tp_run_laws.specs.ShortRuns.{BoundRunsAreShort}
 use Rattle.tp_run_laws.specs.Wholes.{IsRunOver}
 use Rattle.tp_stream.specs.Takes.{ends_whole}
 use Rattle.tp_stream.proofs.Lines.{lines_after}
@@ -30,6 +31,7 @@ use Rattle.tp_program.specs.declared.status.Status.{Status}
 use Rattle.tp_program.specs.declared.status.Status.TheVariants as status
 use Rattle.tp_program.proofs.InOrderFacts.{found_machine, has, named_something}
 use Rattle.tp_program.proofs.LogSizes.{not-too-long}
+use Rattle.tp_program.proofs.RunSizes.{runs-keep-sizes}
 use Rattle.tp_program.proofs.Sizes.{not_too_long}
 
 module _ (words : List (List ℕ)) (files : Files) (log : List ℕ) (asked : Asked) (good : IsCheckInOrder words files log asked) where
@@ -111,6 +113,9 @@ run-lawful law machine budget lines text run =
       is_text = run.is_text ∙ sym (text_of-log (items_in run.log));
     }
 
-pub no_run_is_rejected : ((machine : Machine) → BoundRunsAccepted machine) → NoRunIsRejected
-no_run_is_rejected law words files asked budget script taken taken' machine run good same =
-    no_lawful_log_is_refused words files run.text asked good (subst (λ m. IsLawfulText m run.text) (sym same) (run-lawful law machine budget (lines_of script) run.text run.run))
+pub no_run_is_rejected : ((machine : Machine) → BoundRunsAccepted machine) → ((machine : Machine) (nodes : ℕ) → BoundRunsAreShort machine nodes) → NoRunIsRejected
+no_run_is_rejected law short words files asked budget script taken taken' machine run is bytes =
+    let sizes = runs-keep-sizes machine budget (short machine budget) empty_state script run.text run.fit run.few run.run bytes in
+    let good : IsCheckInOrder words files run.text asked =
+    record { named = is.named; mode = is.mode; text = is.text; there = is.there; machine = machine; is_text = is.is_text; sizes = sizes } in
+    no_lawful_log_is_refused words files run.text asked good (run-lawful law machine budget (lines_of script) run.text run.run)

@@ -12,6 +12,7 @@ mod LogSizes
 mod PromisedFacts
 mod ResumesInOrderFacts
 mod RunFacts
+mod RunSizes
 mod SaveEndFacts
 mod SeedFacts
 mod Sizes

@@ -1,12 +1,12 @@
 -- Checks in which everything but the log itself is in order, and what that excludes.
-use Rattle.std.specs.Prelude.{◌≡◌, ◌≢◌, ℕ, true, List, Option, Some, None, IsTrue}
+use Rattle.std.specs.Prelude.{◌≡◌, ◌≢◌, ℕ, ◌≤◌, true, List, length, Option, Some, None, IsTrue}
 use Rattle.tp_outside.specs.Outside.{Files}
 use Rattle.tp_machine.specs.declared.machine.Machine.{Machine}
 use Rattle.tp_machine_text.specs.Texts.{IsMachineText}
 use Rattle.tp_command.specs.Form.{Asked, form}
 use Rattle.tp_command.specs.declared.request.Mode.TheVariants.{Check}
 use Rattle.tp_log_check.specs.Ends.{IsLawfulText}
-use Rattle.tp_log_check.specs.Sizes.{KeepsSizes}
+use Rattle.tp_log_check.specs.Sizes.{KeepsSizes, most_bytes}
 use Rattle.tp_log_check.specs.declared.flaw.Flaw.{Flaw}
 use Rattle.tp_run_laws.specs.Ends.{IsAnswered}
 use Rattle.tp_event_rules.specs.States.{empty_state}
@@ -48,8 +48,16 @@ abbrev pub NoLawfulLogIsRefused : Type 0
 NoLawfulLogIsRefused = (words : List (List ℕ)) (files : Files) (log : List ℕ) (asked : Asked)
     → (good : IsCheckInOrder words files log asked) → IsLawfulText good.machine log → LogIsNotRefused words files log asked
 
--- and if a run with bounds from the empty state on the same machine wrote it
+-- the words ask for a check on the text of this machine
+pub record IsCheckOf (words : List (List ℕ)) (files : Files) (asked : Asked) (machine : Machine) : Type 0 where
+  pub named : form words ≡ Some asked
+  pub mode : asked.mode ≡ Check
+  pub text : List ℕ
+  pub there : IsThere files asked.arg text
+  pub is_text : IsMachineText text machine
+
+-- and so it is if a run with bounds from the empty state on this machine wrote the log, of at most 10^18 bytes
 abbrev pub NoRunIsRejected : Type 0
 NoRunIsRejected = (words : List (List ℕ)) (files : Files) (asked : Asked) (budget : ℕ) (script : List ℕ) (taken taken' : Option (List ℕ)) (machine : Machine)
-    → (run : IsAnswered machine budget true empty_state script taken taken') → (good : IsCheckInOrder words files run.text asked) → good.machine ≡ machine
+    → (run : IsAnswered machine budget true empty_state script taken taken') → IsCheckOf words files asked machine → length run.text ≤ most_bytes
     → LogIsNotRefused words files run.text asked

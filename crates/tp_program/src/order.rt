@@ -6,6 +6,7 @@ ghost use Rattle.tp_program.specs.InOrder.{NoRackIsRefused, NoRunIsRefused};
 ghost use Rattle.tp_program.specs.ResumesInOrder.{NoResumeIsRefused};
 
 use tp_log_laws::bound_runs_are_accepted;
+use tp_run_laws::bound_runs_have_short_lines;
 use tp_snapshot::snapshots_are_read_back;
 
 /// Where the words ask for a run, saved or not, name the text of a machine, and the script keeps its sizes, no cause of a refusal holds. So
@@ -35,12 +36,13 @@ pub fn lawful_logs_are_accepted()
     ensures { NoLawfulLogIsRefused }
 {}
 
-/// If a run with bounds wrote the log, and the words ask for a check of it on the same machine, and the log keeps its sizes, no cause of
-/// a refusal holds, `Rejected` included.
+/// If a run with bounds wrote the log, it has at most 10^18 bytes, and the words ask for a check of it on the same machine, no cause of a refusal
+/// holds, `Rejected` included. So if the outside doesn't fail either, the check ends in `Done`, or in `Memory`.
 pub fn runs_are_accepted()
     ensures { NoRunIsRejected }
 {
     bound_runs_are_accepted();
+    bound_runs_have_short_lines();
 }
 
 /// Where the words ask for what is composed of a rack, and name the text of one, no cause of a refusal holds. So where the

@@ -11,3 +11,9 @@ pub mod Proved
 pub mod Promises
 pub mod TreeLines
 pub mod TreePlaces
+pub mod RunLines
+pub mod ToldRecords
+pub mod ShortWords
+pub mod FewGroups
+pub mod FewHops
+pub mod ShortRunLines

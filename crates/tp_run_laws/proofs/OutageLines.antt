@@ -4,7 +4,7 @@ use Rattle.std.proofs.lemmas.List.Elements.{All-append, All-cons, All-head, All-
 use Rattle.tp_machine.specs.declared.machine.Machine.{Machine}
 use Rattle.tp_jobs.specs.declared.parts.Job.{Job}
 use Rattle.tp_jobs.specs.Backlogs.{next_copy}
-use Rattle.tp_log.specs.Records.{IsPrintable}
+use Rattle.tp_run_laws.proofs.ToldRecords.{IsTold}
 use Rattle.tp_schedule.specs.Plans.{is_before}
 use Rattle.tp_schedule.specs.declared.parts.Plan.{Plan}
 use Rattle.tp_schedule.specs.declared.records.Record.{Record}
@@ -22,24 +22,24 @@ use Rattle.tp_event_rules.specs.declared.tell.Tell.{Tell}
 use Rattle.tp_event_rules.specs.declared.tell.Tell.TheVariants.{Done as TellsDone, Release as TellsRelease}
 
 abbrev pub HaveLines : List Record → Type 0
-HaveLines records = All IsPrintable records
+HaveLines records = All IsTold records
 
 pub none : HaveLines []
-none = All-nil IsPrintable
+none = All-nil IsTold
 
-pub one : (r : Record) → IsPrintable r → HaveLines (r ∷ [])
-one r has = All-cons IsPrintable r [] has none
+pub one : (r : Record) → IsTold r → HaveLines (r ∷ [])
+one r has = All-cons IsTold r [] has none
 
 pub both : (first rest : List Record) → HaveLines first → HaveLines rest → HaveLines (first ++ rest)
-both first rest has have = All-append IsPrintable first rest has have
+both first rest has have = All-append IsTold first rest has have
 
 pub of-each : {X : Type 0} (f : X → List Record) → ((x : X) → HaveLines (f x)) → (xs : List X) → HaveLines (flat_map f xs)
 of-each f each [] = none
 of-each f each (x ∷ xs) = both (f x) (flat_map f xs) (each x) (of-each f each xs)
 
-pub of-map : {X : Type 0} (f : X → Record) → ((x : X) → IsPrintable (f x)) → (xs : List X) → HaveLines (map f xs)
+pub of-map : {X : Type 0} (f : X → Record) → ((x : X) → IsTold (f x)) → (xs : List X) → HaveLines (map f xs)
 of-map f each [] = none
-of-map f each (x ∷ xs) = All-cons IsPrintable (f x) (map f xs) (each x) (of-map f each xs)
+of-map f each (x ∷ xs) = All-cons IsTold (f x) (map f xs) (each x) (of-map f each xs)
 
 pub of-either : (b : Bool) (o q : Outcome) → HaveLines o.records → HaveLines q.records → HaveLines (cond b o q).records
 of-either true o q has have = has
@@ -55,12 +55,12 @@ lines-recalls jobs now p = of-map (λ run. Recall (label jobs p.sheet) run.numbe
 
 lines-told_of : (jobs : List Job) (now : ℕ) (p : Plan) (f : Fate) → HaveLines (told_of jobs now p f)
 lines-told_of jobs now p fates.stays = none
-lines-told_of jobs now p fates.lost = All-cons IsPrintable (Lost (label jobs p.sheet)) (recalls jobs now p) tt (lines-recalls jobs now p)
+lines-told_of jobs now p fates.lost = All-cons IsTold (Lost (label jobs p.sheet)) (recalls jobs now p) tt (lines-recalls jobs now p)
 lines-told_of jobs now p fates.withdrawn = both (recalls jobs now p) (Withdraw (label jobs p.sheet) ∷ []) (lines-recalls jobs now p) (one (Withdraw (label jobs p.sheet)) tt)
 lines-told_of jobs now p fates.cut = both (recalls jobs now p) (Cut (label jobs p.sheet) ∷ []) (lines-recalls jobs now p) (one (Cut (label jobs p.sheet)) tt)
 lines-told_of jobs now p fates.purged = both (recalls jobs now p) (Purge (label jobs p.sheet) ∷ []) (lines-recalls jobs now p) (one (Purge (label jobs p.sheet)) tt)
 lines-told_of jobs now p fates.replaced = both (recalls jobs now p) (Purge (label jobs p.sheet) ∷ Again (label jobs (next_copy p.sheet)) ∷ []) (lines-recalls jobs now p)
-    (All-cons IsPrintable (Purge (label jobs p.sheet)) (Again (label jobs (next_copy p.sheet)) ∷ []) tt (one (Again (label jobs (next_copy p.sheet))) tt))
+    (All-cons IsTold (Purge (label jobs p.sheet)) (Again (label jobs (next_copy p.sheet)) ∷ []) tt (one (Again (label jobs (next_copy p.sheet))) tt))
 lines-told_of jobs now p fates.dropped = both (recalls jobs now p) (Drop (label jobs p.sheet) ∷ []) (lines-recalls jobs now p) (one (Drop (label jobs p.sheet)) tt)
 
 lines-told_by : (fate : Plan → Fate) (s : SessionState) → HaveLines (told_by fate s)
@@ -96,7 +96,7 @@ lines-job_break job s =
     let planned = All-map IsLined (λ p. record { sheet = p.sheet; records = told_of s.jobs s.now p (fate_in_break s job p) }) s.plans
     (all-each _ (λ p. lines-told_of s.jobs s.now p (fate_in_break s job p)) s.plans) in
     let all = lined-by_copy (notices_of_waiting s job ++ notices_of_plans s job) (All-append IsLined (notices_of_waiting s job) (notices_of_plans s job) waited planned) in
-    All-cons IsPrintable (Broken _) _ tt (lines-notices (by_copy (notices_of_waiting s job ++ notices_of_plans s job)) all)
+    All-cons IsTold (Broken _) _ tt (lines-notices (by_copy (notices_of_waiting s job ++ notices_of_plans s job)) all)
 
 -- a fall-back, and an outage
 lines-next_waits : (d : Displaced) (s : SessionState) → HaveLines (next_waits d s).records
@@ -117,7 +117,7 @@ lines-outage machine m jam s =
     (of-for_each fall_back_unless_broken lines-unless_broken (displaced machine m jam s) (going_out machine m jam s).state)
 
 -- a move of the clock
-pub line-tell : (machine : Machine) (jobs : List Job) (t : Tell) → IsPrintable (record_of machine jobs t)
+pub line-tell : (machine : Machine) (jobs : List Job) (t : Tell) → IsTold (record_of machine jobs t)
 line-tell machine jobs (TellsDone sheet place at) = tt
 line-tell machine jobs (TellsRelease sheet number act start end) = tt
 

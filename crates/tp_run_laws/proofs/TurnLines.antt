@@ -4,7 +4,7 @@ use Rattle.std.specs.Bool.{MatchBool}
 use Rattle.std.specs.Option.{MatchOption}
 use Rattle.std.specs.Str.{bytes_eq}
 use Rattle.std.proofs.lemmas.List.{length-append, length-drop, length-map}
-use Rattle.std.proofs.lemmas.List.Elements.{All-cons, All-contains, All-filter, All-head, All-tail}
+use Rattle.std.proofs.lemmas.List.Elements.{All-cons, All-contains, All-filter, All-head, All-nil, All-tail}
 use Rattle.tp_machine.specs.declared.parts.ActId.{ActId}
 use Rattle.tp_machine.specs.declared.machine.Machine.{Machine}
 use Rattle.tp_jobs.specs.Backlogs.{tray_of}
@@ -25,7 +25,7 @@ use Rattle.tp_schedule.specs.declared.parts.Reply.{Reply}
 use Rattle.tp_schedule.specs.declared.parts.Reply.TheVariants.{Planned, Never, Spent}
 use Rattle.tp_schedule.specs.declared.records.Cause.{Cause}
 use Rattle.tp_schedule.specs.declared.records.Record.{Record}
-use Rattle.tp_schedule.specs.declared.records.Record.TheVariants.{Purge, Stuck, Refused, FullUp, Never as TellsNever, Budget, Move}
+use Rattle.tp_schedule.specs.declared.records.Record.TheVariants.{Plan as TellsPlan, Move, Never as TellsNever, Budget, FullUp, Release, Done, Lost, Recall, Withdraw, Cut, Purge, Again, Stuck, Broken, Drop, Refused}
 use Rattle.tp_schedule.proofs.CopyFacts.{plan_of-itself}
 use Rattle.tp_event_rules.proofs.AskSteps.{AsksFirst, TellsFull}
 use Rattle.tp_event_rules.proofs.ListFacts.{find-Some}
@@ -40,25 +40,50 @@ use Rattle.tp_event_rules.specs.Outages.{outage}
 use Rattle.tp_event_rules.specs.Planners.{AnswersInTurn, IsRight, PlannerSteps, RunsLoop}
 use Rattle.tp_event_rules.specs.Refusals.{clock_refusal, refusal}
 use Rattle.tp_event_rules.specs.States.{SessionState}
-use Rattle.tp_event_rules.specs.Turns.{Accepts, Begins}
+use Rattle.tp_event_rules.specs.Turns.{Accepts, Begins, Turn}
 use Rattle.tp_event_turn.specs.Events.{ClockTurn, MovesClock}
 use Rattle.tp_run_laws.proofs.OutageLines.{HaveLines, both, line-tell, lines-clock, lines-fall_back, lines-outage, none, of-map, one}
+use Rattle.tp_run_laws.proofs.ToldRecords.{IsTold}
 use Rattle.tp_run_laws.specs.Told.{LiveTurnsHaveLines, TurnsHaveLines}
+
+printable-one : (r : Record) → IsTold r → IsPrintable r
+printable-one (TellsPlan sheet place points acts) told = (told.0, told.1)
+printable-one (Move sheet points) told = told.0
+printable-one (TellsNever sheet goal) told = tt
+printable-one (Budget sheet goal bound) told = tt
+printable-one (FullUp sheet) told = tt
+printable-one (Release sheet act name start end) told = tt
+printable-one (Done sheet place at) told = tt
+printable-one (Lost sheet) told = tt
+printable-one (Recall sheet act) told = tt
+printable-one (Withdraw sheet) told = tt
+printable-one (Cut sheet) told = tt
+printable-one (Purge sheet) told = tt
+printable-one (Again sheet) told = tt
+printable-one (Stuck sheet name) told = tt
+printable-one (Broken job) told = tt
+printable-one (Drop sheet) told = tt
+printable-one (Refused cause) told = tt
+
+printable : (records : List Record) → HaveLines records → All IsPrintable records
+printable [] told = All-nil IsPrintable
+printable (r ∷ records) told = All-cons IsPrintable r records (printable-one r (All-head IsTold r records told)) (printable records (All-tail IsTold r records told))
 
 -- a plan without its first actions, of which others follow
 line-plan : (machine : Machine) (kept : ℕ) (p : Plan) (before route : List ActId) → IsTimedPlan machine p → p.acts ≡ before ++ route → route ≢ [] → kept ≤ length before
-    → IsPrintable (told_of_plan machine kept p)
+    → IsTold (told_of_plan machine kept p)
 line-plan machine kept p before [] timed is some fits = absurd (some refl)
 line-plan machine kept p before (act ∷ route) timed is some fits =
     let points = timed.one_more in
+    let most = timed.at_most in
     let acts : length p.acts ≡ length before + suc (length route) = ap length is ∙ length-append before (act ∷ route) in
-    rw (length-map, length-drop, length-drop) (omega arith, omega arith)
+    rw (length-map, length-drop, length-drop) (omega arith, omega arith, omega arith)
 
 line-move : (machine : Machine) (p p' : Plan) → IsTimedPlan machine p' → HaveLines (told_of_move p p')
 line-move machine p p' timed = go (bytes_eq p.points p'.points) where
   go : (b : Bool) → HaveLines (cond b [] (Move (label_of_plan p') p'.points ∷ []))
   go true = none
-  go false = one (Move (label_of_plan p') p'.points) (omega (arith, timed.one_more, timed.some))
+  go false = one (Move (label_of_plan p') p'.points) (omega (arith, timed.one_more, timed.some), omega (arith, timed.one_more, timed.at_most))
 
 lines-moves : (machine : Machine) (plans plans' : List Plan) → All (IsTimedPlan machine) plans' → HaveLines (moves plans plans')
 lines-moves machine [] plans' all = none
@@ -145,7 +170,7 @@ module _ {P : Type 0} (steps : PlannerSteps P) (machine : Machine) (spent : P �
             → HaveLines records
         go true c next over full answered = over next
         go false true (rest, told, next) over full answered =
-            subst HaveLines (sym told) (All-cons IsPrintable (FullUp (label s.jobs w.sheet)) rest tt (full rest next))
+            subst HaveLines (sym told) (All-cons IsTold (FullUp (label s.jobs w.sheet)) rest tt (full rest next))
         go false false (reply, (plans, (mid, (rest, does, told, next)))) over full answered =
             subst HaveLines (sym told) (both (told_of_reply machine s.plans (ask_waiting machine s w) reply plans) rest
             (lines-reply (spent p) machine s.plans (ask_waiting machine s w) reply plans (right p s.plans (replied (ask_waiting machine s w) reply) plans mid does) (λ a. omega arith))
@@ -165,13 +190,16 @@ module _ {P : Type 0} (steps : PlannerSteps P) (machine : Machine) (spent : P �
   lines-begins (On name) s p records s' p' (m, known, told, is, same) = subst HaveLines (sym told) none
   lines-begins (Refill name count) s p records s' p' (f, known, told, is, same) = subst HaveLines (sym told) none
 
-  pub lines-turn : TurnsHaveLines steps machine
-  lines-turn event s p records s' p' turn = go (refusal machine s event) turn where
+  pub lines-told : (event : Event) (s : SessionState) (p : P) (records : List Record) (s' : SessionState) (p' : P) → Turn steps machine event s p records s' p' → HaveLines records
+  lines-told event s p records s' p' turn = go (refusal machine s event) turn where
     go : (o : Option Cause) → MatchOption o (Accepts steps machine event s p records s' p') (λ cause. (records ≡ Refused cause ∷ []) × (s' ≡ s) × (p' ≡ p)) → HaveLines records
     go None accepts =
         subst HaveLines (sym accepts.told) (both accepts.first accepts.rest (lines-begins event s p accepts.first accepts.between accepts.mid accepts.begins)
         (lines-asks accepts.between.waiting [] accepts.between accepts.mid accepts.rest s' p' accepts.asks))
     go (Some cause) (told, is, same) = subst HaveLines (sym told) (one (Refused cause) tt)
+
+  pub lines-turn : TurnsHaveLines steps machine
+  lines-turn event s p records s' p' turn = printable records (lines-told event s p records s' p' turn)
 
   -- of a live state the clock forgets what is past before the phase of asks
   lines-moved : (to : ℕ) (s : SessionState) (p : P) (records : List Record) (s' : SessionState) (p' : P) → ClockTurn steps machine to s p records s' p' → HaveLines records
@@ -186,7 +214,7 @@ module _ {P : Type 0} (steps : PlannerSteps P) (machine : Machine) (spent : P �
   pub lines-live : LiveTurnsHaveLines steps machine
   lines-live Bad s p records s' p' turn = lines-turn Bad s p records s' p' turn
   lines-live (NewJob name tray media groups) s p records s' p' turn = lines-turn (NewJob name tray media groups) s p records s' p' turn
-  lines-live (Clock to) s p records s' p' turn = lines-moved to s p records s' p' turn
+  lines-live (Clock to) s p records s' p' turn = printable records (lines-moved to s p records s' p' turn)
   lines-live (Jam name) s p records s' p' turn = lines-turn (Jam name) s p records s' p' turn
   lines-live (Off name) s p records s' p' turn = lines-turn (Off name) s p records s' p' turn
   lines-live (On name) s p records s' p' turn = lines-turn (On name) s p records s' p' turn

@@ -5,5 +5,6 @@ pub mod EventRuns
 pub mod Ends
 pub mod Continuations
 pub mod Told
+pub mod ShortRuns
 pub mod Proved
 pub mod Promised

@@ -7,6 +7,7 @@ ghost use Rattle.tp_run_laws.specs.EventRuns.{EventsAreLawful, TurnsTellLines};
 ghost use Rattle.tp_run_laws.specs.Continuations.{EventsGoOn, FirstRunsAreLawful, LinesGoOn, RunsJoin};
 ghost use Rattle.tp_run_laws.specs.Ends.{ScriptsAreLawful, StopsAreLawful};
 ghost use Rattle.tp_run_laws.specs.Promised.{AnswersKeepPromises, LawfulRunsKeepPromises, StopsKeepPromises};
+ghost use Rattle.tp_run_laws.specs.ShortRuns.{BoundRunsAreShort};
 ghost use Rattle.tp_run_laws.specs.Told.{LiveTurnsHaveLines, TurnsHaveLines};
 ghost use Rattle.tp_event_rules.specs.Planners.{right_steps};
 ghost use Rattle.tp_run_laws.specs.Wholes.{LinesAreLawful, TurnsOnWhole};
@@ -93,4 +94,9 @@ pub fn runs_keep_promises()
         → AnswersKeepPromises machine nodes bounds }
     ensures stopped { (machine : Machine) (nodes : ℕ) (bounds : Bool)
         → StopsKeepPromises machine nodes bounds }
+{}
+
+/// No line of what a run with bounds writes has more than 4,194,304 bytes, if each line of the script keeps its length limit.
+pub fn bound_runs_have_short_lines()
+    ensures { (machine : Machine) (nodes : ℕ) → BoundRunsAreShort machine nodes }
 {}
