@@ -1,6 +1,7 @@
 -- A list of actions is a route to a tray exactly where its pairs are a walk of the rack.
 use Rattle.std.proofs.Common.{◌≡◌, ◌≢◌, ◌⊎◌, inl, inr, ℕ, Bool, true, false, ◌&&◌, ◌==◌, cond, is_some, List, [], ◌∷◌, map, Option, Some, None, option_map, option_and_then, refl, ap, sym, ◌∙◌, subst}
-use Rattle.std.specs.Prelude.{codes, Contains}
+use Rattle.std.specs.Prelude.{All, codes, Contains}
+use Rattle.std.proofs.lemmas.List.Elements.{All-cons, All-nil}
 use Rattle.std.specs.List.{list_all}
 use Rattle.std.proofs.lemmas.Bool.{and_parts}
 use Rattle.toml.specs.Data.{Data, string, Members, no_members, get_member, get}
@@ -24,7 +25,7 @@ use Rattle.tp_compose.specs.Racks.{feeders, entries, ports, type_actions, typed_
 use Rattle.tp_compose.specs.EndRules.{is_end, is_end_text, has_trays, has_purges, has_feeders}
 use Rattle.tp_compose.specs.Flat.{flat, flat_action, part_actions, placed_feeders, end_locations}
 use Rattle.tp_compose.specs.Texts.{IsMachineOfRack}
-use Rattle.tp_compose.specs.Walks.{Pair, IsOnePlace, anywhere, work_of, from_end, to_end, LeadsOn, IsWalk, ArePairsOf, IsNewRoute}
+use Rattle.tp_compose.specs.Walks.{Pair, IsPair, IsOnePlace, anywhere, work_of, from_end, to_end, LeadsOn, IsWalk, ArePairsOf, IsNewRoute}
 use Rattle.tp_compose.proofs.Lists.{In, Apart, apart_of, in_any, any_in, in_contained, contained_in, in_map, in_map_back, in_flat, all_in}
 use Rattle.tp_compose.proofs.Puts.{in_all, in_all_back}
 use Rattle.tp_compose.proofs.EndFacts.{deed_ends, deeds, port_end, end_text}
@@ -246,6 +247,12 @@ module _ (r : Members) (m : Machine) (is : IsMachineOfRack r m) where
   some_acts (act ∷ acts) [] are some = elim are [ ]
   some_acts (act ∷ acts) (x ∷ xs) are some = λ e. cc
 
+  of_rack : (acts : List ActId) (xs : List Pair) → ArePairsOf r m acts xs → All (IsPair r) xs
+  of_rack [] [] are = All-nil (IsPair r)
+  of_rack [] (x ∷ xs) are = elim are [ ]
+  of_rack (act ∷ acts) [] are = elim are [ ]
+  of_rack (act ∷ acts) (x ∷ xs) (is, are) = All-cons (IsPair r) x xs is.is_pair (of_rack acts xs are)
+
   pub route_is_walk : (sheet : Sheet) (acts : List ActId) (xs : List Pair) → ArePairsOf r m acts xs → IsNewRoute m sheet acts → IsWalk r sheet xs
   route_is_walk sheet acts xs are route =
       let (f, in_f, fed) = in_any (λ f. (f.media ≡ sheet.media) × (route.start ≡ fresh f.loc)) m.feeders route.is_start in
@@ -253,6 +260,7 @@ module _ (r : Members) (m : Machine) (is : IsMachineOfRack r m) where
       let start : put_at (spot e.end) (fresh anywhere) ≡ route.start = ap fresh e.there ∙ sym fed.1 in
       record {
         some = some_pairs acts xs are route.some;
+        pairs = of_rack acts xs are;
         feeder = e.end;
         feeds = contained_in (entries (feeders r)) (e.end, string sheet.media) e.feeds;
         leads = forward sheet acts xs are e.end (fresh anywhere) e.stands refl route.tray route.is_tray (ap (walk m sheet acts) start ∙ route.leads);

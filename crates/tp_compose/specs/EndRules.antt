@@ -25,7 +25,7 @@ is_join own j = are_two_ends own (elements j)
 abbrev pub joined : List Data → List (List ℕ)
 joined js = flat_map (λ j. map text_of (elements j)) js
 
--- `joins`, where it is there, is an array of arrays of two ENDs, and no END stands in it twice
+-- rule 8: `joins`, where it is there, is an array of arrays of two ENDs, and no END stands in it twice
 abbrev pub has_joins : Members → Members → Bool
 has_joins own r =
     is_fit is_array (get_member (codes "joins") r) && list_all (is_join own) (joins r)
@@ -43,11 +43,11 @@ has_purges own r = is_fit is_array (get_member (codes "purge") r) && list_all (i
 abbrev pub has_feeders : Members → Members → Bool
 has_feeders own r = is_there is_table (get_member (codes "feeders") r) && list_all (is_end_text own) (keys_of (feeders r))
 
--- trays, purge trays and feeders are ENDs
+-- rule 9: trays, purge trays and feeders are ENDs
 abbrev pub has_ends : Members → Members → Bool
 has_ends own r = has_trays own r && has_purges own r && has_feeders own r
 
--- no two feeders have the same location
+-- rule 10: no two feeders have the same location
 abbrev pub has_feeders_apart : Members → Members → Members → Bool
 has_feeders_apart own firsts r = are_different (map (location_by own firsts) (keys_of (feeders r)))
 

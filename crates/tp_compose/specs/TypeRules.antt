@@ -19,11 +19,11 @@ abbrev pub is_short : Data → Bool
 is_short (string text) = is_short_text text
 is_short _ = false
 
--- every key of the top table is known
+-- rule 1: every key of the top table is known
 abbrev pub has_known_keys : Members → Bool
 has_known_keys r = list_all (is_among rack_keys) (keys_of r)
 
--- `format` is there and is the whole number 1
+-- rule 2: `format` is there and is the whole number 1
 abbrev pub has_format : Members → Bool
 has_format r = is_there (is_whole (pos 1) (pos 1)) (get_member (codes "format") r)
 
@@ -31,7 +31,7 @@ has_format r = is_there (is_whole (pos 1) (pos 1)) (get_member (codes "format") 
 unfoldable pub is_type : Data → Bool
 is_type t = is_table t && are_keys_among type_keys t && is_some (get (codes "ports") t) && is_some (get (codes "actions") t)
 
--- `types` is there and is a table with at least one key, each short, each value a type
+-- rule 3: `types` is there and is a table with at least one key, each short, each value a type
 abbrev pub has_types : Members → Bool
 has_types r = nat_le 1 (length (keys_of (types r))) && list_all is_short_text (keys_of (types r)) && list_all is_type (data_of (types r))
 
@@ -45,6 +45,7 @@ has_ports t =
     are_shorts 1 most_ports (elements_in (get (codes "ports") t))
     && is_fit is_array (get (codes "resources") t) && are_shorts 0 most_resources (elements_in (get (codes "resources") t))
 
+-- rule 4: each type has its ports, and perhaps resources
 abbrev pub have_ports : Members → Bool
 have_ports r = list_all has_ports (data_of (types r))
 
@@ -60,6 +61,7 @@ has_deeds t =
     is_there is_array (get (codes "actions") t) && nat_le (length (type_actions t)) most_actions
     && list_all (is_deed (ports t)) (type_actions t) && are_different (map (text_at (codes "name")) (type_actions t))
 
+-- rule 5: each type has its actions
 abbrev pub have_deeds : Members → Bool
 have_deeds r = list_all has_deeds (data_of (types r))
 
@@ -76,10 +78,11 @@ has_grips resources a =
 unfoldable pub has_all_grips : Data → Bool
 has_all_grips t = list_all (has_grips (type_resources t)) (type_actions t)
 
+-- rule 6: the holds of each type name resources of it
 abbrev pub have_grips : Members → Bool
 have_grips r = list_all has_all_grips (data_of (types r))
 
--- `parts` is there and is a table of 1 to 64 keys, each short, each value a type
+-- rule 7: `parts` is there and is a table of 1 to 64 keys, each short, each value a type
 abbrev pub has_parts : Members → Bool
 has_parts r =
     is_count 1 most_modules (length (keys_of (parts r))) && list_all is_short_text (keys_of (parts r))

@@ -1,5 +1,5 @@
 -- Walks of a sheet through a rack, from part to part. They know no location names and no table of a machine.
-use Rattle.std.specs.Prelude.{◌≡◌, ◌≢◌, ℕ, List, [], ◌∷◌, map, Some, Any, Contains, ◌⊎◌}
+use Rattle.std.specs.Prelude.{◌≡◌, ◌≢◌, ℕ, List, [], ◌∷◌, map, Some, All, Any, Contains, ◌⊎◌}
 use Rattle.toml.specs.Data.{Data, string, Members}
 use Rattle.std.specs.Prelude.{codes}
 use Rattle.tp_machine.specs.Steps.{step_of}
@@ -51,9 +51,10 @@ LeadsOn r sheet [] at s = Any (IsOnePlace r at) (texts_at (codes "trays") r) × 
 LeadsOn r sheet (x ∷ xs) at s =
     (next : State) × IsOnePlace r at (from_end x) × (step_of (work_of x.1) sheet s ≡ Some next) × LeadsOn r sheet xs (to_end x) next
 
--- a walk: at least one pair, from an END that feeds the sheet's media to a tray
+-- a walk: at least one pair of the rack, from an END that feeds the sheet's media to a tray
 pub record IsWalk (r : Members) (sheet : Sheet) (xs : List Pair) : Type 0 where
   pub some : xs ≢ []
+  pub pairs : All (IsPair r) xs
   pub feeder : List ℕ
   pub feeds : Contains (entries (feeders r)) (feeder, string sheet.media)
   pub leads : LeadsOn r sheet xs feeder (fresh anywhere)

@@ -6,14 +6,14 @@ use Rattle.tp_machine.specs.Limits.{longest, most_actions}
 use Rattle.tp_machine_text.specs.Words.{keys_of, members_of, elements_in, text_at, whole_at, is_there, is_fit, is_array, is_table, is_truth_value, is_name, is_among, is_one_of, is_count, are_from, are_different}
 use Rattle.tp_machine_text.specs.Keys.{action_keys, kinds, locations, modules, trays, purges, feeders, actions}
 
--- `actions` is there and is an array of 1 to 512 tables
+-- rule 14: `actions` is there and is an array of 1 to 512 tables
 abbrev pub has_actions : Members → Bool
 has_actions t = is_count 1 most_actions (length (actions t)) && list_all is_table (actions t)
 
 abbrev pub are_keys_among : List (List ℕ) → Data → Bool
 are_keys_among known d = list_all (is_among known) (keys_of (members_of (as_table d)))
 
--- every key of an action is known
+-- rule 15: every key of an action is known
 abbrev pub has_known_action_keys : Members → Bool
 has_known_action_keys t = list_all (are_keys_among action_keys) (actions t)
 
@@ -21,6 +21,7 @@ has_known_action_keys t = list_all (are_keys_among action_keys) (actions t)
 unfoldable pub is_named : Data → Bool
 is_named a = is_there is_name (get (codes "name") a)
 
+-- rule 16: each action has a name, and the names differ
 abbrev pub has_action_names : Members → Bool
 has_action_names t = list_all is_named (actions t) && are_different (map (text_at (codes "name")) (actions t))
 
@@ -28,6 +29,7 @@ has_action_names t = list_all is_named (actions t) && are_different (map (text_a
 unfoldable pub is_of_module : List (List ℕ) → Data → Bool
 is_of_module modules a = is_there (is_one_of modules) (get (codes "module") a)
 
+-- rule 17: each action is of a module
 abbrev pub has_action_modules : Members → Bool
 has_action_modules t = list_all (is_of_module (modules t)) (actions t)
 
@@ -35,6 +37,7 @@ has_action_modules t = list_all (is_of_module (modules t)) (actions t)
 unfoldable pub has_ends : List (List ℕ) → Data → Bool
 has_ends locations a = is_there (is_one_of locations) (get (codes "from") a) && is_there (is_one_of locations) (get (codes "to") a)
 
+-- rule 18: each action leads from a location to a location
 abbrev pub has_action_ends : Members → Bool
 has_action_ends t = list_all (has_ends (locations t)) (actions t)
 
@@ -44,6 +47,7 @@ is_way trays purges feeders a =
     not (is_among trays (text_at (codes "from") a)) && not (is_among purges (text_at (codes "from") a))
     && not (is_among feeders (text_at (codes "to") a))
 
+-- rule 19: no action leads from a tray or to a feeder
 abbrev pub has_ways : Members → Bool
 has_ways t = list_all (is_way (trays t) (purges t) (feeders t)) (actions t)
 
@@ -53,6 +57,7 @@ has_durations a =
     int_le (pos 1) (whole_at (codes "least") a) && int_le (whole_at (codes "least") a) (whole_at (codes "most") a)
     && int_le (whole_at (codes "most") a) (pos longest)
 
+-- rule 20: each action has a least and a most duration
 abbrev pub has_action_durations : Members → Bool
 has_action_durations t = list_all has_durations (actions t)
 
@@ -62,6 +67,7 @@ has_prints a =
     is_fit is_array (get (codes "prints") a) && are_from kinds (elements_in (get (codes "prints") a))
     && is_fit is_truth_value (get (codes "flip") a)
 
+-- rule 21: what an action prints is known, and whether it flips
 abbrev pub has_action_prints : Members → Bool
 has_action_prints t = list_all has_prints (actions t)
 

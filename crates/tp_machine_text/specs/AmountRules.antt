@@ -19,11 +19,11 @@ is_amount_table names most value = is_fit is_table value && are_amounts names mo
 abbrev pub has_amounts : List ℕ → List (List ℕ) → ℤ → Members → Bool
 has_amounts key names most t = (is_second t || not (is_some (get_member key t))) && is_amount_table names most (get_member key t)
 
--- `gaps`, where it is there, stands in a text of format 2 and is a table from resources to whole numbers from 0 to 4,096
+-- rule 25: `gaps`, where it is there, stands in a text of format 2 and is a table from resources to whole numbers from 0 to 4,096
 abbrev pub has_gaps : Members → Bool
 has_gaps t = has_amounts (codes "gaps") (resources t) (pos longest) t
 
--- `stock`, where it is there, stands in a text of format 2 and is a table from feeders to whole numbers from 0 to 1,000,000
+-- rule 26: `stock`, where it is there, stands in a text of format 2 and is a table from feeders to whole numbers from 0 to 1,000,000
 abbrev pub has_stock : Members → Bool
 has_stock t = has_amounts (codes "stock") (feeders t) (pos most_stock) t
 

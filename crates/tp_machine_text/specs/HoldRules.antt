@@ -42,7 +42,7 @@ lacks_mode h = not (is_some (get (codes "mode") h))
 abbrev pub lacks_modes : Data → Bool
 lacks_modes a = list_all lacks_mode (holds a)
 
--- the same of all actions; holds have modes in a text of format 2 alone
+-- rule 22: the holds of each action are such; holds have modes in a text of format 2 alone
 abbrev pub has_action_holds : Members → Bool
 has_action_holds t = list_all (has_holds (resources t)) (actions t) && (is_second t || list_all lacks_modes (actions t))
 
@@ -81,6 +81,7 @@ begins_in_action least h = begins_within least (anchor_at (codes "begin") h) (of
 abbrev pub begins_all : Data → Bool
 begins_all a = list_all (begins_in_action (least_of a)) (holds a)
 
+-- rule 23: each hold of each action begins in it
 abbrev pub has_hold_begins : Members → Bool
 has_hold_begins t = list_all begins_all (actions t)
 
@@ -92,6 +93,7 @@ is_filled least most h =
 abbrev pub fills_all : Data → Bool
 fills_all a = list_all (is_filled (least_of a) (most_of a)) (holds a)
 
+-- rule 24: no hold of any action can be empty
 abbrev pub has_hold_lengths : Members → Bool
 has_hold_lengths t = list_all fills_all (actions t)
 

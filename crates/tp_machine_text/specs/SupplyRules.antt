@@ -11,19 +11,19 @@ use Rattle.tp_machine_text.specs.Keys.{locations, modules, trays, purges, feeder
 abbrev pub is_open_location : List (List ℕ) → List (List ℕ) → List (List ℕ) → List ℕ → Bool
 is_open_location locations trays purges text = is_among locations text && not (is_among trays text) && not (is_among purges text)
 
--- `feeders` is there and is a table with at least one key, each a location that is neither tray nor purge tray
+-- rule 10: `feeders` is there and is a table with at least one key, each a location that is neither tray nor purge tray
 abbrev pub has_feeders : Members → Bool
 has_feeders t = nat_le 1 (length (feeders t)) && list_all (is_open_location (locations t) (trays t) (purges t)) (feeders t)
 
--- each value of `feeders` is a name
+-- rule 11: each value of `feeders` is a name
 abbrev pub has_media : Members → Bool
 has_media t = list_all is_name (data_of (members_at (codes "feeders") t))
 
--- `resources`, where it is there, is a table of at most 256 keys, each a name
+-- rule 12: `resources`, where it is there, is a table of at most 256 keys, each a name
 abbrev pub has_resources : Members → Bool
 has_resources t = is_fit is_table (get_member (codes "resources") t) && nat_le (length (resources t)) most_resources && list_all is_name_text (resources t)
 
--- each value of `resources` is a module
+-- rule 13: each value of `resources` is a module
 abbrev pub has_resource_modules : Members → Bool
 has_resource_modules t = list_all (is_one_of (modules t)) (data_of (members_at (codes "resources") t))
 
