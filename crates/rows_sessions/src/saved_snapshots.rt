@@ -1,10 +1,14 @@
 //! Snapshots, and what is written of the machine and the standing that they tell.
 
+ghost use Rattle.std.specs.Prelude.{◌≡◌, IfOk};
 ghost use Rattle.tp_session_standing.specs.Sound.{IsSound};
 
 use rows_machine::machines::{DUO, TWIN};
 use std::alloc::Global;
 use std::test::Fail;
+use tp_base::Memory;
+use tp_jobs::{Desk, Standing};
+use tp_session::{Session, Settings};
 use tp_snapshot::{Opened, read_snapshot, write_snapshot};
 
 /// A machine text, and what a snapshot has before it and behind it.
@@ -128,6 +132,57 @@ fn again(alloc: Global, bytes: &[u8]) -> Result<Vec<u8>, Fail> {
         Ok(opened) => written(alloc, &opened),
         Err(_) => Err(Fail::from("the snapshot is refused")),
     }
+}
+
+/// Brings the desk to the standing, and returns where it stands then.
+fn stood<D: Desk>(alloc: Global, desk: &mut D, standing: &Standing) -> Result<Standing, Memory>
+    requires sound { D.sound (D.machine desk.old) standing.now }
+    ensures stands { IfOk result (λ told. told ≡ standing.now) }
+    ensures same_machine { D.machine desk.new ≡ D.machine desk.old }
+{
+    desk.restore(standing)?;
+    desk.standing(alloc)
+}
+
+/// What is written of the session's machine and of where it stands, once it was brought to the standing as a desk.
+fn written_on(alloc: Global, mut session: Session, standing: &Standing) -> Result<Vec<u8>, Fail>
+    requires { IsSound session.standing.machine standing.now }
+{
+    match stood(alloc, &mut session, standing) {
+        Ok(told) => match write_snapshot(alloc, session.machine(), &told) {
+            Ok(written) => Ok(written),
+            Err(_) => Err(Fail::from("memory")),
+        },
+        Err(_) => Err(Fail::from("memory")),
+    }
+}
+
+/// What is written so of a new session on the machine that these bytes hold.
+fn by_desk(alloc: Global, bytes: &[u8]) -> Result<Vec<u8>, Fail> {
+    match read_snapshot(alloc, bytes) {
+        Ok(Opened { machine, standing }) => {
+            let settings = Settings {
+                budget: None,
+                bounds: false,
+            };
+            match Session::new(alloc, machine, settings) {
+                Ok(session) => written_on(alloc, session, &standing),
+                Err(_) => Err(Fail::from("memory")),
+            }
+        }
+        Err(_) => Err(Fail::from("the snapshot is refused")),
+    }
+}
+
+#[test]
+fn sessions_stand_as_desks(rt: HostRuntime) -> Result<(), Fail> {
+    for saved in [ONE, JAMMED, AFTERMATH] {
+        let text = text_of(rt.alloc(), saved)?;
+        let written = again(rt.alloc(), text.as_bytes())?;
+        let by_desk = by_desk(rt.alloc(), &written)?;
+        assert!(rt; by_desk == written);
+    }
+    Ok(())
 }
 
 #[test]
