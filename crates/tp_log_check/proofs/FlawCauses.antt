@@ -1,6 +1,6 @@
 -- A flaw tells why the turn of the event that is under way is off or stops.
-use Rattle.std.proofs.Common.{◌≡◌, List, Option, Some, None, sym, subst}
-use Rattle.std.specs.Prelude.{ℕ, ◌+◌, IfSome, IsSome, MatchOption, drop, take}
+use Rattle.std.proofs.Common.{◌≡◌, inl, inr, List, Option, Some, None, refl, sym, subst}
+use Rattle.std.specs.Prelude.{ℕ, ◌+◌, IfSome, IsNone, IsSome, MatchOption, drop, take}
 use Rattle.tp_log_check.specs.declared.pending.Pending.{Pending}
 use Rattle.tp_log.specs.declared.item.Item.{Item}
 use Rattle.tp_log_planner.specs.declared.failure.Reason.{Reason}
@@ -8,7 +8,7 @@ use Rattle.tp_log_planner.specs.declared.failure.Reason.TheVariants as reason
 use Rattle.tp_log_planner.specs.declared.failure.WrongItem.{WrongItem}
 use Rattle.tp_log_check.specs.CheckerState.{CheckerValue, underway}
 use Rattle.tp_log_check.specs.Heights.{heights}
-use Rattle.tp_log_check.specs.Causes.{AreItemsOf, HasCause, HasReasonUnder, IsDueOrStops, flaw_at, flaw_on, lines_to}
+use Rattle.tp_log_check.specs.Causes.{AreItemsOf, AreRightSoFar, HasCause, HasReasonUnder, IsBehind, IsDueOrStops, IsRightUnder, TellWholeTurn, flaw_at, flaw_on, lines_to}
 use Rattle.tp_log_check.specs.declared.flaw.Flaw.{Flaw}
 use Rattle.tp_log_check.specs.declared.flaw.Flaw.TheVariants.{Memory, Text, Due, Illegal, NotLeast, Tree}
 
@@ -23,10 +23,10 @@ found-some P Q (Some a) some to = to a
 
 -- a flaw of an item is never that a line is off the grammar
 no-text : (n line place : ℕ) (reason : Reason) → Text n ≡ flaw_on line place reason → ⊥
-no-text n line place reason.Due is = absurd is
-no-text n line place (reason.Illegal first second) is = absurd is
-no-text n line place (reason.NotLeast given least) is = absurd is
-no-text n line place (reason.Tree flaw) is = absurd is
+no-text n line place reason.Due is = absurd cc
+no-text n line place (reason.Illegal first second) is = absurd cc
+no-text n line place (reason.NotLeast given least) is = absurd cc
+no-text n line place (reason.Tree flaw) is = absurd cc
 
 module _ (c : CheckerValue) (p : Pending) (is : c.under ≡ Some (underway p)) (items : List Item) (are : AreItemsOf (underway p) items) (stop : WrongItem) where
   reason-under : (flaw : Flaw) → flaw ≡ flaw_at p.line items stop → IsDueOrStops c.machine c.state p.event items stop → HasReasonUnder c.machine c.state c.under flaw
@@ -39,3 +39,14 @@ module _ (c : CheckerValue) (p : Pending) (is : c.under ≡ Some (underway p)) (
   caused (Illegal line first second) told why = reason-under (Illegal line first second) told why
   caused (NotLeast line given least) told why = reason-under (NotLeast line given least) told why
   caused (Tree line flaw) told why = reason-under (Tree line flaw) told why
+
+-- nothing is wrong with the items that are told so far, where nothing is found, or what is found stands behind them
+pub right-so-far : (c : CheckerValue) (p : Pending) → c.under ≡ Some (underway p) → (found : Option WrongItem) (items : List Item) → items ≡ p.items.items
+    → IfSome found (IsDueOrStops c.machine c.state p.event p.items.items) → (IsNone found → TellWholeTurn c.machine c.state p.event p.items.items) → IfSome found (IsBehind items)
+    → IsRightUnder c.machine c.state c.under
+right-so-far c p is found items same why right behind = subst (λ u. IsRightUnder c.machine c.state u) (sym is) (go found why right behind)
+  where
+    go : (o : Option WrongItem) → IfSome o (IsDueOrStops c.machine c.state p.event p.items.items) → (IsNone o → TellWholeTurn c.machine c.state p.event p.items.items) → IfSome o (IsBehind items)
+        → AreRightSoFar c.machine c.state p.event p.items.items
+    go None why right behind = inl (right refl)
+    go (Some stop) why right behind = inr (stop, why, subst (λ xs. IsBehind xs stop) same behind)

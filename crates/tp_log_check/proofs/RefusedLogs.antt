@@ -88,6 +88,10 @@ some-not_none None some e = cc
 some-not_none (Some x) some e = cc
 
 -- what holds of an error, told in other words
+pub if-ok : {A E : Type 0} (P Q : A → Type 0) (r : Result A E) → IfOk r P → ((a : A) → P a → Q a) → IfOk r Q
+if-ok P Q (Ok a) h f = f a h
+if-ok P Q (Err e) h f = tt
+
 pub if-err : {A E : Type 0} (P Q : E → Type 0) (r : Result A E) → IfErr r P → ((e : E) → P e → Q e) → IfErr r Q
 if-err P Q (Ok a) h f = tt
 if-err P Q (Err e) h f = f e h

@@ -76,25 +76,22 @@ onto-lines byte (line ∷ lines) e all = All-cons IsOneLine (byte ∷ line) line
 
 lines-one : (text : List ℕ) → All IsOneLine (lines_of text)
 lines-one [] = All-nil IsOneLine
-lines-one (byte ∷ text) = go (byte == 10) refl
+lines-one (byte ∷ text) = go (byte == 10) refl (lines-one text)
   where
-    go : (b : Bool) → (byte == 10) ≡ b → All IsOneLine (cond b ((10 ∷ []) ∷ lines_of text) (onto_line byte (lines_of text)))
-    go true e = All-cons IsOneLine (10 ∷ []) (lines_of text) (omega arith) (lines-one text)
-    go false e = onto-lines byte (lines_of text) e (lines-one text)
+    go : (b : Bool) → (byte == 10) ≡ b → All IsOneLine (lines_of text) → All IsOneLine (cond b ((10 ∷ []) ∷ lines_of text) (onto_line byte (lines_of text)))
+    go true e rest = All-cons IsOneLine (10 ∷ []) (lines_of text) (omega arith) rest
+    go false e rest = onto-lines byte (lines_of text) e rest
 
 abbrev pub HasFewGroups : Event → Type 0
 HasFewGroups event = groups_in event ≤ 4098
 
 of-lines : (lines : List (List ℕ)) → All (FitsIn line_bytes) lines → All IsOneLine lines → All HasFewGroups (filter_map line_event lines)
 of-lines [] fit one = All-nil HasFewGroups
-of-lines (line ∷ lines) fit one = go (line_event line) refl
+of-lines (line ∷ lines) fit one = go (line_event line) refl (of-lines lines (All-tail (FitsIn line_bytes) line lines fit) (All-tail IsOneLine line lines one))
   where
-    rest : All HasFewGroups (filter_map line_event lines)
-    rest = of-lines lines (All-tail (FitsIn line_bytes) line lines fit) (All-tail IsOneLine line lines one)
-
-    go : (o : Option Event) → line_event line ≡ o → All HasFewGroups (filter_map line_event (line ∷ lines))
-    go None e = rw e rest
-    go (Some event) e = rw e
+    go : (o : Option Event) → line_event line ≡ o → All HasFewGroups (filter_map line_event lines) → All HasFewGroups (filter_map line_event (line ∷ lines))
+    go None e rest = rw e rest
+    go (Some event) e rest = rw e
         (All-cons HasFewGroups event (filter_map line_event lines) (omega (arith, of-line line event e, All-head (FitsIn line_bytes) line lines fit, All-head IsOneLine line lines one)) rest)
 
 pub few-groups : (script : List ℕ) → All (FitsIn line_bytes) (lines_of script) → All HasFewGroups (filter_map line_event (lines_of script))

@@ -33,7 +33,7 @@ module _ (machine : Machine) (nodes : ℕ) where
   taken plans plans' (settled now) trees trees' same few = subst AreFew same few
 
   carry : DeedsCarry shown anyone (λ trees. Unit {0}) (λ trees q. AreFew trees)
-  carry trees trees' plans plans' deed of_turn fit (right, takes) = (tt, λ q' few. (q', (tt, taken plans plans' deed trees trees' takes few)))
+  carry trees trees' plans plans' deed of_turn fit (right, takes) = (tt, λ q' few. (q', tt, taken plans plans' deed trees trees' takes few))
 
   pub few-hops : (s : SessionState) (log : List (Entry BoundTree)) (s' : SessionState) → Run tree_claims true (spent_by nodes) machine s log s' → All (λ e. AreFew e.trees) log
   few-hops s [] s' run = All-nil (λ (e : Entry BoundTree). AreFew e.trees)

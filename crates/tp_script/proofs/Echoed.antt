@@ -19,7 +19,7 @@ counted : (word : List ℕ) (g : GroupForm) → IsGroup word g → IsCounted g
 counted word g (inl (one, is)) = (omega (arith, one), omega (arith, one))
 counted word g (inr (count, writes, low, high, is)) = (low, high)
 
-all_counted : (words : List (List ℕ)) (gs : List GroupForm) → AllZip IsGroup words gs → AllByRecursion IsCounted gs × (length gs ≡ length words)
+pub all_counted : (words : List (List ℕ)) (gs : List GroupForm) → AllZip IsGroup words gs → AllByRecursion IsCounted gs × (length gs ≡ length words)
 all_counted [] [] h = (tt, refl)
 all_counted [] (g ∷ gs) h = absurd h
 all_counted (w ∷ ws) [] h = absurd h

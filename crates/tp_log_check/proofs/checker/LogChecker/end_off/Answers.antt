@@ -2,8 +2,8 @@ use Rattle.std.proofs.Common.{inl, refl, ap, sym, subst, ◌∙◌}
 use Rattle.std.specs.Prelude.{IfSome, option_map}
 use Rattle.tp_log_check.specs.Gathered.{IsPending}
 use Rattle.tp_event_rules.specs.LiveStates.{seen}
-use Rattle.tp_log_check.specs.Causes.{HasCause, IsDueOrStops, flaw_at}
-use Rattle.tp_log_check.proofs.FlawCauses.{caused}
+use Rattle.tp_log_check.specs.Causes.{HasCause, IsDueOrStops, IsRightUnder, flaw_at}
+use Rattle.tp_log_check.proofs.FlawCauses.{caused, right-so-far}
 use Rattle.tp_log_check.specs.CheckerState.{CheckerValue, HasTaken, underway}
 use Rattle.tp_log_check.proofs.FlawPlaces.{fits-so-far, found-so-far, off-last}
 use Rattle.tp_log_check.proofs.Sections.{keeps-stock}
@@ -38,3 +38,11 @@ returns-in-Some-flaw_before-clause-why c other told h fits =
     let why = subst (λ o. IfSome o (IsDueOrStops inside.machine (seen inside.state) p.event p.items.items)) found c.in-Ok.ensures.why in
     subst (λ v. HasCause v flaw) c.self.view_is
     (caused value p (ap (option_map underway) is) p.items.items (inl refl) stop flaw (there ∙ (λ k. flaw_at (same.line k) (same.items k) stop)) why)
+
+pub returns-in-Ok-clause-why : goal.returns-in-Ok-clause-why
+returns-in-Ok-clause-why c other told h fits =
+    let is = sym c.take.ensures.value ∙ c.in-Some.is in
+    let inside = c.self.inside in
+    let value : CheckerValue = record { machine = inside.machine; state = seen inside.state; under = option_map underway inside.pending; events = inside.events; lines = inside.lines; counts = inside.counts; flaw = inside.flaw } in
+    subst (λ v. IsRightUnder v.machine v.state v.under) c.self.view_is
+    (right-so-far value c.in-Some.pending (ap (option_map underway) is) c.in-Ok.found c.look_off.new.pending.items.items c.look_off.ensures.same.items c.in-Ok.ensures.why c.in-Ok.ensures.right (c.in-None.ensures.behind refl))
