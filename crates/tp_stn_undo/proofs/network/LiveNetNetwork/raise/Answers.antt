@@ -5,7 +5,7 @@ use Rattle.tp_stn_undo.specs.declared.live_net.LiveNet.TheInside.{Inside}
 use Rattle.tp_base.specs.Net.{HasNoSolution, with_low}
 use Rattle.tp_base.specs.Refute.{IsLateChain}
 use Rattle.tp_base.specs.Grows.{AreWithin, IsSupported, cause_of}
-use Rattle.tp_base.specs.Kept.{net_of}
+use Rattle.tp_base.specs.Kept.{net_of, KeptRefutes}
 use Rattle.tp_base.proofs.LeastFacts.{mut_items, raised_chain}
 use Rattle.tp_base.proofs.RisenFacts.{kept_refutes}
 use Rattle.tp_stn_undo.specs.declared.point_state.PointState.{PointState}
@@ -27,8 +27,9 @@ use Rattle.tp_stn_undo.specs.declared.working.Working.{Working}
 use Rattle.tp_stn_undo.specs.WorkingRoom.{KeepsSizes}
 use Rattle.tp_stn_undo.proofs.NoteFacts.{same_saves}
 use Rattle.tp_stn_undo.proofs.ChangedFacts.{IsChanged, HoldsTogether, as_it_was, changed_live, changed_past}
+use Rattle.tp_base.proofs.RefuteFacts.{chain_refutes}
 use Rattle.tp_stn_undo.proofs.network.LiveNetNetwork.raise.Goals as goal
-use Rattle.tp_stn_undo.proofs.network.LiveNetNetwork.raise.Goals.{After-lift, After-save_changes}
+use Rattle.tp_stn_undo.proofs.network.LiveNetNetwork.raise.Goals.{After-self-1, After-lift, After-save_changes, After-kept-in-Err-1}
 
 known : (c : After-lift) → c.args.point.0 < length c.self.inside.states.items
 known c = let v = ap (λ (s : LiveState). length s.net.lows) c.self.view_is in let n = lows_len c.self.inside.states.items in let k = c.requires.known in omega arith
@@ -45,8 +46,9 @@ lift_len c = (lifts c).len ∙ sym c.self.inside.states.ok.0
 lifted : (c : After-lift) → take c.self.inside.states.len (c.lift.new.states ++ drop (length c.lift.new.states) c.self.inside.states.items) ≡ c.lift.new.states
 lifted c = mut_items c.self.inside.states.len c.lift.new.states c.self.inside.states.items (lift_len c)
 
-pub returns-then-low-index-clause-refused : goal.returns-then-low-index-clause-refused
-returns-then-low-index-clause-refused c =
+-- the point shows that there is no solution
+late : (c : After-self-1) → IsLateChain (with_low c.args.self.now.net c.args.point.0 c.args.low) c.args.point.0 []
+late c =
     let a = c.self.inside in
     let p = c.args.point.0 in
     let n = c.self.invariant.sound.caps in
@@ -56,7 +58,30 @@ returns-then-low-index-clause-refused c =
     let i = get_or_read a.caps.items p c.index.result.now (omega arith) c.index.ensures 0 in
     let h : slice_index a.caps.items p < c.args.low = omega arith in
     let chain = raised_chain (net_of_core (core_in a)) p c.args.low (omega arith) h in
-    rw c.clear.ensures.items (subst (λ (s : LiveState). IsLateChain (with_low s.net p c.args.low) p []) c.self.view_is chain)
+    subst (λ (s : LiveState). IsLateChain (with_low s.net p c.args.low) p []) c.self.view_is chain
+
+pub returns-then-low-index-clause-refused : goal.returns-then-low-index-clause-refused
+returns-then-low-index-clause-refused c = rw c.clear.ensures.items (late c)
+
+pub returns-then-low-index-clause-late : goal.returns-then-low-index-clause-late
+returns-then-low-index-clause-late c = chain_refutes (with_low c.args.self.now.net c.args.point.0 c.args.low) c.args.point.0 [] (late c)
+
+pub index-requires : goal.index-requires
+index-requires c =
+    let v = ap (λ (s : LiveState). length s.net.lows) c.self.view_is in
+    let n = lows_len c.self.inside.states.items in
+    let k = c.requires.known in
+    let e = c.self.invariant.sound.caps in
+    let h : c.args.point.0 < c.self.inside.caps.len = omega (arith, c.self.inside.caps.ok.0) in
+    h
+
+pub lift-requires-clause-known : goal.lift-requires-clause-known
+lift-requires-clause-known c =
+    let v = ap (λ (s : LiveState). length s.net.lows) c.self.view_is in
+    let n = lows_len c.self.inside.states.items in
+    let k = c.requires.known in
+    let d = ap length c.deref_mut.ensures.value in
+    omega arith
 
 pub spread-requires-clause-below : goal.spread-requires-clause-below
 spread-requires-clause-below c =
@@ -182,26 +207,40 @@ changed_to c =
 pub invariant_of-self-in-Ok : goal.invariant_of-self-in-Ok
 invariant_of-self-in-Ok c = changed_live c.self.inside c.self.invariant (after c) c.spread.new.states c.self.inside.caps.items c.self.inside.links.items c.self.inside.heads.items (changed_to c) (holds c)
 
+pub returns-in-Ok-clause-raised : goal.returns-in-Ok-clause-raised
+returns-in-Ok-clause-raised c =
+    let a = c.self.inside in
+    let k = (goal.at.returns-in-Ok-clause-raised c).After-lift in
+    ap (λ (ls : List ℕ). net_of ls a.caps.items (edges_of a.links.items)) (ap lows_of (same_states c) ∙ (back c).lows ∙ (lifts k).lows)
+    ∙ ap (λ (s : LiveState). with_low s.net c.args.point.0 c.args.low) c.self.view_is
+
 pub returns-in-Ok-clause-solved : goal.returns-in-Ok-clause-solved
 returns-in-Ok-clause-solved c = (_, (invariant_of-self-in-Ok c).sound.least)
 
 pub returns-in-Ok-clause-past : goal.returns-in-Ok-clause-past
 returns-in-Ok-clause-past c = ap nets_of (changed_past c.self.inside c.self.invariant (after c) c.spread.new.states c.self.inside.caps.items c.self.inside.links.items c.self.inside.heads.items (changed_to c) (holds c)) ∙ ap (λ (s : LiveState). s.past) c.self.view_is
 
-pub invariant_of-self-in-Err : goal.invariant_of-self-in-Err
-invariant_of-self-in-Err c =
+-- the points once the change is taken back
+again : (c : After-kept-in-Err-1) → take c.self.inside.states.len (c.put_back.new.states ++ drop (length c.put_back.new.states) (take c.self.inside.states.len (c.spread.new.states ++ drop (length c.spread.new.states) (take c.self.inside.states.len (c.lift.new.states ++ drop (length c.lift.new.states) c.self.inside.states.items))))) ≡ c.self.inside.states.items
+again c =
     let k = (goal.at.invariant_of-self-in-Err c).After-lift in
     let a = c.self.inside in
-    let inv = c.self.invariant in
     let b : LeadsBack a.links.items c.lift.new.states c.spread.new.states c.lift.new.changes.entries c.spread.new.working.changes.entries = rw (c.deref-2.ensures.value, c.deref_mut-2.ensures.value ∙ lifted k) at c.spread.ensures.back in
     let v = c.deref_mut-in-Err.ensures.value ∙ mut_items a.states.len c.spread.new.states _ (b.len ∙ lift_len k) in
-    let again : take c.self.inside.states.len (c.put_back.new.states ++ drop (length c.put_back.new.states) (take c.self.inside.states.len (c.spread.new.states ++ drop (length c.spread.new.states) (take c.self.inside.states.len (c.lift.new.states ++ drop (length c.lift.new.states) c.self.inside.states.items))))) ≡ c.self.inside.states.items =
     mut_items a.states.len c.put_back.new.states _ (c.put_back.auto.states ∙ ap length v ∙ b.len ∙ lift_len k)
-    ∙ c.put_back.ensures.states ∙ ap (restored c.spread.new.working.changes.entries) v ∙ b.back ∙ before k in
+    ∙ c.put_back.ensures.states ∙ ap (restored c.spread.new.working.changes.entries) v ∙ b.back ∙ before k
+
+older_same : (c : After-kept-in-Err-1) → c.put_back.new.self.older ≡ c.self.inside.working.changes.older
+older_same c = c.put_back.ensures.same.older ∙ (saves (goal.at.invariant_of-self-in-Err c).After-lift c.spread.new.working c.spread.ensures.sizes).older
+
+pub invariant_of-self-in-Err : goal.invariant_of-self-in-Err
+invariant_of-self-in-Err c =
+    let a = c.self.inside in
+    let inv = c.self.invariant in
     let e = c.spread.ensures in
     changed_live a inv _ a.states.items a.caps.items a.links.items a.heads.items
     (record {
-      states = again;
+      states = again c;
       caps = refl;
       links = refl;
       heads = refl;
@@ -221,16 +260,35 @@ invariant_of-self-in-Err c =
       places = e.sizes.places;
       rest = record { idle = c.clear-in-Err.ensures.idle; none = c.clear-in-Err.ensures.none; unchanged = c.put_back.ensures.entries; zeros = e.zeros };
     })
-    (subst (HoldsTogether a a.states.items a.caps.items a.links.items a.heads.items) (sym (c.put_back.ensures.same.older ∙ (saves k c.spread.new.working e.sizes).older)) (as_it_was a inv))
+    (subst (HoldsTogether a a.states.items a.caps.items a.links.items a.heads.items) (sym (older_same c)) (as_it_was a inv))
 
-pub returns-in-Err-clause-late : goal.returns-in-Err-clause-late
-returns-in-Err-clause-late c =
+pub returns-in-Err-clause-kept : goal.returns-in-Err-clause-kept
+returns-in-Err-clause-kept c =
+    let a = c.self.inside in
+    ap (λ (ss : List PointState). net_of (lows_of ss) a.caps.items (edges_of a.links.items)) (again c) ∙ ap (λ (s : LiveState). s.net) c.self.view_is
+
+pub returns-in-Err-clause-past : goal.returns-in-Err-clause-past
+returns-in-Err-clause-past c =
+    let a = c.self.inside in
+    ap (λ (ss : List PointState). nets_of (past_of a.marks.items c.put_back.new.self.older ss a.caps.items a.links.items)) (again c)
+    ∙ ap (λ (saved : List SavedState). nets_of (past_of a.marks.items saved a.states.items a.caps.items a.links.items)) (older_same c)
+    ∙ ap (λ (s : LiveState). s.past) c.self.view_is
+
+refuted : (c : After-kept-in-Err-1) → KeptRefutes (with_low c.args.self.now.net c.args.point.0 c.args.low) c.in-Err.kept c.spread.new.working.path.items
+refuted c =
     let k = (goal.at.returns-in-Err-clause-late c).After-lift in
     let a = c.self.inside in
-    let r = rw (c.deref-2.ensures.value, c.deref.ensures.value, c.deref_mut-2.ensures.value ∙ lifted k) at c.in-Err.ensures.refuted in
-    let none : HasNoSolution (net_of (lows_of c.lift.new.states) a.caps.items (edges_of a.links.items)) = kept_refutes _ c.in-Err.kept c.spread.new.working.path.items r in
-    subst (λ (s : LiveState). HasNoSolution (with_low s.net c.args.point.0 c.args.low)) c.self.view_is
-    (subst (λ (ls : List ℕ). HasNoSolution (net_of ls a.caps.items (edges_of a.links.items))) (lifts k).lows none)
+    let kept = c.in-Err.kept in
+    let path = c.spread.new.working.path.items in
+    let r : KeptRefutes (net_of (lows_of c.lift.new.states) a.caps.items (edges_of a.links.items)) kept path = rw (c.deref-2.ensures.value, c.deref.ensures.value, c.deref_mut-2.ensures.value ∙ lifted k) at c.in-Err.ensures.refuted in
+    subst (λ (s : LiveState). KeptRefutes (with_low s.net c.args.point.0 c.args.low) kept path) c.self.view_is
+    (subst (λ (ls : List ℕ). KeptRefutes (net_of ls a.caps.items (edges_of a.links.items)) kept path) (lifts k).lows r)
+
+pub returns-in-Err-clause-refused : goal.returns-in-Err-clause-refused
+returns-in-Err-clause-refused c = refuted c
+
+pub returns-in-Err-clause-late : goal.returns-in-Err-clause-late
+returns-in-Err-clause-late c = kept_refutes _ c.in-Err.kept c.spread.new.working.path.items (refuted c)
 
 pub put_back-requires : goal.put_back-requires
 put_back-requires c =

@@ -106,3 +106,28 @@ invariant_of-self c =
           (sound_moved a.states.items a.caps.items a.links.items p c.args.low c.args.cap inv.sound (known k) (more k) b.0 b.1);
       past = subst (λ (ms : List LiveMark). All IsSound (past_of ms a.working.changes.older (after k) (set a.caps.items p c.args.cap) a.links.items)) (sym (none k)) (All-nil IsSound);
     }
+
+pub index-state-requires : goal.index-state-requires
+index-state-requires c =
+    let v = ap (λ (s : LiveState). length s.net.lows) c.self.view_is in
+    let n = lows_len c.self.inside.states.items in
+    let k = c.requires.known in
+    let h : c.args.point.0 < c.self.inside.states.len = omega (arith, c.self.inside.states.ok.0) in
+    h
+
+pub index_mut-requires : goal.index_mut-requires
+index_mut-requires c =
+    let v = ap (λ (s : LiveState). length s.net.lows) c.self.view_is in
+    let n = lows_len c.self.inside.states.items in
+    let k = c.requires.known in
+    let h : c.args.point.0 < c.self.inside.states.len = omega (arith, c.self.inside.states.ok.0) in
+    h
+
+pub index_mut-requires-2 : goal.index_mut-requires-2
+index_mut-requires-2 c =
+    let v = ap (λ (s : LiveState). length s.net.lows) c.self.view_is in
+    let n = lows_len c.self.inside.states.items in
+    let k = c.requires.known in
+    let e = c.self.invariant.sound.caps in
+    let h : c.args.point.0 < c.self.inside.caps.len = omega (arith, c.self.inside.caps.ok.0) in
+    h
