@@ -1,5 +1,5 @@
 -- What adding edges does.
-use Rattle.std.specs.Prelude.{◌≡◌, ◌≢◌, ℕ, ◌<◌, ◌^◌, Bool, false, List, [], ◌++◌, length, slice_index}
+use Rattle.std.specs.Prelude.{◌≡◌, ◌≢◌, ℕ, ◌+◌, ◌<◌, ◌≤◌, ◌^◌, Bool, false, List, [], ◌++◌, length, slice_index}
 use Rattle.std.specs.List.{All}
 use Rattle.tp_base.specs.declared.edges.Edge.{Edge}
 use Rattle.tp_stn_undo.specs.declared.point_state.PointState.{PointState}
@@ -30,6 +30,17 @@ pub record CanAdd (caps : List ℕ) (links : List Link) (heads : List ℕ) (stat
   pub idle : AreIdle w.waiting.flags
   pub none : w.waiting.points ≡ []
   pub zeros : AreZeros w.places.items
+
+-- so many more edges fit in memory, and their numbers in 32 bits
+pub record HasLinkRoom (count more capacity : ℕ) : Type 0 where
+  pub fits : count + more ≤ capacity
+  pub few : count + more < 2 ^ 32
+
+-- no edge stands that did not stand before, the points are what they were, and nothing is noted
+pub record AreTakenBack (links links' : List Link) (states states' : List PointState) (noted' : List SavedState) : Type 0 where
+  pub same_links : links' ≡ links
+  pub same_states : states' ≡ states
+  pub none : noted' ≡ []
 
 -- the edges stand after those that were there
 pub record AreLinkedAfter (links links' : List Link) (edges : List Edge) : Type 0 where

@@ -12,6 +12,7 @@ pub mod CauseTraces
 pub mod RaisedBounds
 pub mod Chains
 pub mod WorkingRoom
+pub mod Spread
 pub mod AddedEdges
 pub mod Live
 pub mod Times

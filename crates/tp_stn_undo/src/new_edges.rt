@@ -1,15 +1,16 @@
 //! Edges are added, and the times are worked out again.
-ghost use Rattle.std.specs.Prelude.{◌≡◌, ℕ, ◌+◌, ◌<◌, ◌≤◌, ◌^◌, [], ◌∷◌, ◌++◌, length, All, OnOk, OnErr, IfErr, vec_capacity};
+ghost use Rattle.std.specs.Prelude.{◌≡◌, ℕ, ◌<◌, ◌≤◌, [], ◌∷◌, ◌++◌, length, All, OnOk, OnErr, IfErr, vec_capacity};
 ghost use Rattle.tp_base.specs.Net.{IsSolution};
 ghost use Rattle.tp_base.specs.Grows.{IsKnown};
 ghost use Rattle.tp_base.specs.Kept.{net_of, KeptRefutes};
 ghost use Rattle.tp_stn_undo.specs.States.{IsSound, lows_of, edges_of};
 ghost use Rattle.tp_stn_undo.specs.Marks.{AreLinks};
-ghost use Rattle.tp_stn_undo.specs.Flags.{AreIdle, AreBelow};
+ghost use Rattle.tp_stn_undo.specs.Flags.{AreBelow};
 ghost use Rattle.tp_stn_undo.specs.Propagation.{LeadsBack};
 ghost use Rattle.tp_stn_undo.specs.CauseTraces.{AreZeros};
+ghost use Rattle.tp_stn_undo.specs.Spread.{NoneWaits};
 ghost use Rattle.tp_stn_undo.specs.WorkingRoom.{KeepsSizes};
-ghost use Rattle.tp_stn_undo.specs.AddedEdges.{CanAdd, Adds, AreLinkedAfter, AllWait, new_state, newest_link};
+ghost use Rattle.tp_stn_undo.specs.AddedEdges.{AllWait, Adds, AreLinkedAfter, AreTakenBack, CanAdd, HasLinkRoom, new_state, newest_link};
 
 use crate::link::Link;
 use crate::link_lists::{link, unlink};
@@ -58,16 +59,14 @@ fn add_edge(
 ) -> Result<(), Kept>
     requires ready { CanAdd caps.now links.old.items heads.old states.old working.old }
     requires known { IsKnown (length states.old) edge.now }
-    requires capacity { length links.old.items < vec_capacity links.old }
-    requires few { length links.old.items + 1 < 2 ^ 32 }
+    requires room { HasLinkRoom (length links.old.items) 1 (vec_capacity links.old) }
     ensures links { links.new.items ≡ links.old.items ++ newest_link heads.old edge.now ∷ [] }
     ensures linked { AreLinks links.new.items heads.new (length states.old) }
     ensures back { LeadsBack links.new.items states.old states.new
         working.old.changes.entries working.new.changes.entries }
     ensures sound { OnOk result (IsSound
         (record { states = states.new; caps = caps.now; links = links.new.items })) }
-    ensures idle { OnOk result (AreIdle working.new.waiting.flags) }
-    ensures none { OnOk result (working.new.waiting.points ≡ []) }
+    ensures quiet { OnOk result (NoneWaits working.new.waiting) }
     ensures refuted { IfErr result (λ kept. KeptRefutes
         (net_of (lows_of states.old) caps.now (edges_of links.old.items ++ edge.now ∷ []))
         kept working.new.path.items) }
@@ -92,16 +91,14 @@ pub(crate) fn add_edges(
     requires ready { CanAdd caps.now links.old.items heads.old states.old working.old }
     requires unchanged { working.old.changes.entries ≡ [] }
     requires known { All (IsKnown (length states.old)) edges.now }
-    requires capacity { length links.old.items + length edges.now ≤ vec_capacity links.old }
-    requires few { length links.old.items + length edges.now < 2 ^ 32 }
+    requires room { HasLinkRoom
+        (length links.old.items) (length edges.now) (vec_capacity links.old) }
     ensures added { OnOk result (Adds edges.now caps.now links.old.items links.new.items
         states.old states.new working.new.changes.entries) }
-    ensures links { OnErr result (links.new.items ≡ links.old.items) }
-    ensures states { OnErr result (states.new ≡ states.old) }
-    ensures unchanged { OnErr result (working.new.changes.entries ≡ []) }
+    ensures taken_back { OnErr result (AreTakenBack links.old.items links.new.items
+        states.old states.new working.new.changes.entries) }
     ensures linked { AreLinks links.new.items heads.new (length states.old) }
-    ensures idle { AreIdle working.new.waiting.flags }
-    ensures none { working.new.waiting.points ≡ [] }
+    ensures quiet { NoneWaits working.new.waiting }
     ensures refuted { IfErr result (λ kept. KeptRefutes
         (net_of (lows_of states.old) caps.now (edges_of links.old.items ++ edges.now))
         kept working.new.path.items) }
@@ -128,8 +125,8 @@ pub(crate) fn add_edges(
 fn link_all(edges: &[Edge], links: &mut Vec<Link>, heads: &mut [u32], waiting: &mut Waiting)
     requires linked { AreLinks links.old.items heads.old (length heads.old) }
     requires known { All (IsKnown (length heads.old)) edges.now }
-    requires capacity { length links.old.items + length edges.now ≤ vec_capacity links.old }
-    requires few { length links.old.items + length edges.now < 2 ^ 32 }
+    requires room { HasLinkRoom
+        (length links.old.items) (length edges.now) (vec_capacity links.old) }
     requires waits { length heads.old ≤ length waiting.old.flags }
     ensures added { AreLinkedAfter links.old.items links.new.items edges.now }
     ensures linked { AreLinks links.new.items heads.new (length heads.old) }
@@ -157,15 +154,14 @@ pub(crate) fn load_edges(
     requires ready { CanAdd caps.now links.old.items heads.old states.old working.old }
     requires unchanged { working.old.changes.entries ≡ [] }
     requires known { All (IsKnown (length states.old)) edges.now }
-    requires capacity { length links.old.items + length edges.now ≤ vec_capacity links.old }
-    requires few { length links.old.items + length edges.now < 2 ^ 32 }
+    requires room { HasLinkRoom
+        (length links.old.items) (length edges.now) (vec_capacity links.old) }
     requires solution { (x : ℕ → ℕ) × IsSolution
         (net_of (lows_of states.old) caps.now (edges_of links.old.items ++ edges.now)) x }
     ensures added { Adds edges.now caps.now links.old.items links.new.items
         states.old states.new working.new.changes.entries }
     ensures linked { AreLinks links.new.items heads.new (length states.old) }
-    ensures idle { AreIdle working.new.waiting.flags }
-    ensures none { working.new.waiting.points ≡ [] }
+    ensures quiet { NoneWaits working.new.waiting }
     ensures sizes { KeepsSizes working.old working.new }
     ensures zeros { AreZeros working.new.places.items }
     ensures capacity { vec_capacity links.new ≡ vec_capacity links.old }

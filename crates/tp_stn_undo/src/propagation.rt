@@ -1,16 +1,14 @@
 //! Following edges until all are kept.
-ghost use Rattle.std.specs.Prelude.{◌≡◌, ℕ, ◌-◌, ◌<◌, ◌≤◌, ◌^◌, List, [], length, take, slice_index, OnOk, IfErr};
-ghost use Rattle.std.specs.List.{All};
-ghost use Rattle.tp_base.specs.declared.edges.Edge.{Edge};
-ghost use Rattle.tp_base.specs.Net.{Keeps};
-ghost use Rattle.tp_base.specs.Grows.{IsKnown, IsSupported, PassesCap, AreWithin, cause_of};
+ghost use Rattle.std.specs.Prelude.{◌≡◌, ◌-◌, ◌<◌, ◌≤◌, length, take, slice_index, OnOk, IfErr};
+ghost use Rattle.tp_base.specs.Grows.{PassesCap, AreWithin};
 ghost use Rattle.tp_base.specs.Kept.{net_of, KeptRefutes};
 ghost use Rattle.tp_stn_undo.specs.States.{lows_of, times_of, edges_of, causes_of};
 ghost use Rattle.tp_stn_undo.specs.Marks.{AreLinks};
-ghost use Rattle.tp_stn_undo.specs.Flags.{AreIdle, AreBelow, IsSameSave};
-ghost use Rattle.tp_stn_undo.specs.Propagation.{AreNumbered, AsksMore, AsksFor, StatesRise, LeadsBack, KeptFrom, IsMet, AreKept, Reached, weight};
+ghost use Rattle.tp_stn_undo.specs.Flags.{AreBelow, IsSameSave};
+ghost use Rattle.tp_stn_undo.specs.Propagation.{LeadsBack, KeptFrom, AreKept, Reached};
 ghost use Rattle.tp_stn_undo.specs.CauseTraces.{AreZeros};
-ghost use Rattle.tp_stn_undo.specs.WorkingRoom.{HasWorkingCapacity, KeepsSizes};
+ghost use Rattle.tp_stn_undo.specs.WorkingRoom.{KeepsSizes};
+ghost use Rattle.tp_stn_undo.specs.Spread.{AreBounded, AreSettled, CanSpread, Follows, IsPull, NoneWaits};
 
 use crate::cause_trace::trace_causes;
 use crate::changes::Changes;
@@ -46,31 +44,19 @@ fn raise_along(
     waiting: &mut Waiting,
     changes: &mut Changes,
 ) -> Result<(), PointId>
-    requires some { 0 < pull.number }
-    requires number { pull.number ≤ length links.now }
-    requires known { All (IsKnown (length states.old)) (edges_of links.now) }
-    requires more { AsksMore (edges_of links.now) pull.number (slice_index (times_of states.old)) }
-    requires reach { AsksFor (edges_of links.now) pull.number (slice_index (times_of states.old))
-        pull.reach }
-    requires caps { length caps.now ≡ length states.old }
-    requires below { AreWithin caps.now (times_of states.old) }
+    requires asks { IsPull links.now states.old pull.number pull.reach }
+    requires bounded { AreBounded caps.now links.now states.old }
     requires waits { length states.old ≤ length waiting.old.flags }
     requires capacity { length states.old ≤ changes.old.capacity }
     ensures back { LeadsBack links.now states.old states.new
         changes.old.entries changes.new.entries }
-    ensures rises { OnOk result (StatesRise links.now states.old states.new) }
     ensures below { AreWithin caps.now (times_of states.new) }
     ensures waits { length waiting.new.flags ≡ length waiting.old.flags }
     ensures known { AreBelow (length states.old) waiting.old.points
         → AreBelow (length states.old) waiting.new.points }
     ensures same { IsSameSave changes.old changes.new }
-    ensures kept { OnOk result ((edges : List Edge) (point left : ℕ)
-        → KeptFrom edges (slice_index (times_of states.old)) waiting.old.flags point left
-        → KeptFrom edges (slice_index (times_of states.new)) waiting.new.flags point left) }
-    ensures met { OnOk result (IsMet (edges_of links.now) (slice_index (times_of states.new))
-        waiting.new.flags (pull.number - 1)) }
-    ensures less { OnOk result
-        (weight caps.now states.new waiting.new ≤ weight caps.now states.old waiting.old) }
+    ensures follows { OnOk result (Follows caps.now links.now pull.number
+        states.old states.new waiting.old waiting.new) }
     ensures late { IfErr result (λ p. PassesCap caps.now (edges_of links.now) (times_of states.old)
         (causes_of (edges_of links.now) states.old)
         (causes_of (edges_of links.now) states.new) p.0) }
@@ -106,34 +92,15 @@ pub(crate) fn follow(
     states: &mut [PointState],
     working: &mut Working,
 ) -> Result<(), Kept>
-    requires some { 0 < pull.number }
-    requires number { pull.number ≤ length links.now }
-    requires known { All (IsKnown (length states.old)) (edges_of links.now) }
-    requires more { AsksMore (edges_of links.now) pull.number (slice_index (times_of states.old)) }
-    requires reach { AsksFor (edges_of links.now) pull.number (slice_index (times_of states.old))
-        pull.reach }
-    requires caps { length caps.now ≡ length states.old }
-    requires below { AreWithin caps.now (times_of states.old) }
-    requires supported { IsSupported (lows_of states.old) (edges_of links.now)
-        (slice_index (times_of states.old)) (cause_of (causes_of (edges_of links.now) states.old)) }
-    requires numbered { AreNumbered links.now states.old }
-    requires small { length states.old < 2 ^ 32 }
-    requires capacity { HasWorkingCapacity (length states.old) working.old }
-    requires zeros { AreZeros working.old.places.items }
+    requires asks { IsPull links.now states.old pull.number pull.reach }
+    requires ready { CanSpread caps.now links.now states.old working.old }
     ensures back { LeadsBack links.now states.old states.new
         working.old.changes.entries working.new.changes.entries }
-    ensures rises { OnOk result (StatesRise links.now states.old states.new) }
     ensures below { AreWithin caps.now (times_of states.new) }
     ensures known { AreBelow (length states.old) working.old.waiting.points
         → AreBelow (length states.old) working.new.waiting.points }
-    ensures kept { OnOk result ((edges : List Edge) (point left : ℕ)
-        → KeptFrom edges (slice_index (times_of states.old)) working.old.waiting.flags point left
-        → KeptFrom edges (slice_index (times_of states.new))
-        working.new.waiting.flags point left) }
-    ensures met { OnOk result (IsMet (edges_of links.now) (slice_index (times_of states.new))
-        working.new.waiting.flags (pull.number - 1)) }
-    ensures less { OnOk result (weight caps.now states.new working.new.waiting
-        ≤ weight caps.now states.old working.old.waiting) }
+    ensures follows { OnOk result (Follows caps.now links.now pull.number
+        states.old states.new working.old.waiting working.new.waiting) }
     ensures refuted { IfErr result (λ kept. KeptRefutes
         (net_of (lows_of states.old) caps.now (edges_of links.now)) kept working.new.path.items) }
     ensures sizes { KeepsSizes working.old working.new }
@@ -186,27 +153,16 @@ pub(crate) fn spread(
     working: &mut Working,
 ) -> Result<(), Kept>
     requires heads { AreLinks links.now heads.now (length states.old) }
-    requires known { All (IsKnown (length states.old)) (edges_of links.now) }
-    requires caps { length caps.now ≡ length states.old }
-    requires below { AreWithin caps.now (times_of states.old) }
-    requires supported { IsSupported (lows_of states.old) (edges_of links.now)
-        (slice_index (times_of states.old)) (cause_of (causes_of (edges_of links.now) states.old)) }
-    requires numbered { AreNumbered links.now states.old }
-    requires small { length states.old < 2 ^ 32 }
-    requires capacity { HasWorkingCapacity (length states.old) working.old }
-    requires zeros { AreZeros working.old.places.items }
+    requires ready { CanSpread caps.now links.now states.old working.old }
     requires waiting { AreBelow (length states.old) working.old.waiting.points }
     requires reached { Reached links.now start.watched.0 start.first }
     requires kept { KeptFrom (edges_of links.now) (slice_index (times_of states.old))
         working.old.waiting.flags start.watched.0 start.first }
     ensures back { LeadsBack links.now states.old states.new
         working.old.changes.entries working.new.changes.entries }
-    ensures rises { OnOk result (StatesRise links.now states.old states.new) }
     ensures below { AreWithin caps.now (times_of states.new) }
-    ensures kept { OnOk result
-        (All (Keeps (slice_index (times_of states.new))) (edges_of links.now)) }
-    ensures idle { OnOk result (AreIdle working.new.waiting.flags) }
-    ensures none { OnOk result (working.new.waiting.points ≡ []) }
+    ensures settled { OnOk result
+        (AreSettled links.now states.old states.new working.new.waiting) }
     ensures refuted { IfErr result (λ kept. KeptRefutes
         (net_of (lows_of states.old) caps.now (edges_of links.now)) kept working.new.path.items) }
     ensures sizes { KeepsSizes working.old working.new }
@@ -252,27 +208,15 @@ pub(crate) fn settle(
     requires heads { AreLinks links.now heads.now (length states.old) }
     requires some { 0 < number }
     requires newest { number ≡ length links.now }
-    requires known { All (IsKnown (length states.old)) (edges_of links.now) }
-    requires caps { length caps.now ≡ length states.old }
-    requires below { AreWithin caps.now (times_of states.old) }
-    requires supported { IsSupported (lows_of states.old) (edges_of links.now)
-        (slice_index (times_of states.old)) (cause_of (causes_of (edges_of links.now) states.old)) }
-    requires numbered { AreNumbered links.now states.old }
-    requires small { length states.old < 2 ^ 32 }
-    requires capacity { HasWorkingCapacity (length states.old) working.old }
-    requires zeros { AreZeros working.old.places.items }
-    requires idle { AreIdle working.old.waiting.flags }
-    requires none { working.old.waiting.points ≡ [] }
+    requires ready { CanSpread caps.now links.now states.old working.old }
+    requires quiet { NoneWaits working.old.waiting }
     requires kept { AreKept (take (number - 1) (edges_of links.now))
         (slice_index (times_of states.old)) working.old.waiting.flags }
     ensures back { LeadsBack links.now states.old states.new
         working.old.changes.entries working.new.changes.entries }
-    ensures rises { OnOk result (StatesRise links.now states.old states.new) }
     ensures below { AreWithin caps.now (times_of states.new) }
-    ensures kept { OnOk result
-        (All (Keeps (slice_index (times_of states.new))) (edges_of links.now)) }
-    ensures idle { OnOk result (AreIdle working.new.waiting.flags) }
-    ensures none { OnOk result (working.new.waiting.points ≡ []) }
+    ensures settled { OnOk result
+        (AreSettled links.now states.old states.new working.new.waiting) }
     ensures refuted { IfErr result (λ kept. KeptRefutes
         (net_of (lows_of states.old) caps.now (edges_of links.now)) kept working.new.path.items) }
     ensures sizes { KeepsSizes working.old working.new }

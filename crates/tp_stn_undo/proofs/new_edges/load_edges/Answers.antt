@@ -10,18 +10,11 @@ use Rattle.tp_stn_undo.specs.declared.point_state.SavedState.{SavedState}
 use Rattle.tp_stn_undo.specs.States.{IsSound, lows_of, times_of, edges_of}
 use Rattle.tp_stn_undo.specs.Saved.{restored}
 use Rattle.tp_stn_undo.specs.Propagation.{LeadsBack, KeptFrom}
-use Rattle.tp_stn_undo.proofs.FollowFacts.{Supported}
-use Rattle.tp_stn_undo.proofs.SoundFacts.{supported_more}
+use Rattle.tp_stn_undo.proofs.SoundFacts.{supported_more, known_more, numbered_longer, within_of}
 use Rattle.tp_stn_undo.proofs.ChangeFacts.{sound_edges}
 use Rattle.tp_stn_undo.proofs.AddFacts.{linked_edges, kept_waiting}
+use Rattle.tp_stn_undo.specs.Spread.{CanSpread}
 use Rattle.tp_stn_undo.proofs.new_edges.load_edges.Goals as goal
-
-pub spread-requires-clause-supported : goal.spread-requires-clause-supported
-spread-requires-clause-supported c =
-    let s = c.requires.ready.sound in
-    let a = c.link_all.ensures.added in
-    subst (λ (ls : List Link). Supported ls c.args.states.now c.args.states.now) (sym (c.deref.ensures.value ∙ a.after))
-    (supported_more c.args.links.now.items a.more c.args.states.now s.numbered s.supported)
 
 pub spread-requires-clause-kept : goal.spread-requires-clause-kept
 spread-requires-clause-kept c =
@@ -45,7 +38,8 @@ returns-clause-added c =
     let a = c.link_all.ensures.added in
     let e = c.deref.ensures.value ∙ a.after in
     let s = rw e at c.spread.ensures in
-    let k = rw e at c.in-Ok.ensures in
+    let o = rw e at c.in-Ok.ensures in
+    let k = o.settled in
     let b : LeadsBack (links ++ a.more) states states' c.args.working.now.changes.entries c.spread.new.working.changes.entries = s.back in
     let none = ap length c.requires.unchanged in
     record {
@@ -61,3 +55,25 @@ returns-clause-added c =
 
 pub spread-requires-clause-reached : goal.spread-requires-clause-reached
 spread-requires-clause-reached c = inl refl
+
+pub spread-requires-clause-ready : goal.spread-requires-clause-ready
+spread-requires-clause-ready c =
+    let links = c.args.links.now.items in
+    let states = c.args.states.now in
+    let ready = c.requires.ready in
+    let s = ready.sound in
+    let a = c.link_all.ensures.added in
+    let w = ready.capacity.waits in
+    let w2 = c.link_all.ensures.waits in
+    subst (λ (ls : List Link). CanSpread c.args.caps.now ls states (record c.args.working.now { waiting = c.link_all.new.waiting })) (sym (c.deref.ensures.value ∙ a.after)) (record {
+      bounded = record {
+        known = known_more links a.more (length states) s.known (subst (All (IsKnown (length states))) (sym a.edges_are) c.requires.known);
+        all_capped = s.caps;
+        below = within_of (record { states = states; caps = c.args.caps.now; links = links }) s;
+      };
+      supported = supported_more links a.more states s.numbered s.supported;
+      numbered = numbered_longer links a.more states s.numbered;
+      small = ready.small;
+      capacity = record { waits = omega arith; noted = ready.capacity.noted; path = ready.capacity.path; places = ready.capacity.places };
+      zeros = ready.zeros;
+    })

@@ -17,11 +17,9 @@ use Rattle.tp_stn_undo.proofs.RaiseFacts.{time_at, met_same, asks_more, known as
 use Rattle.tp_stn_undo.proofs.FollowFacts.{risen_supported}
 use Rattle.tp_stn_undo.proofs.SpreadFacts.{Next, States-trans, LeadsBack-trans, reached_head, reached_from, kept_head, kept_end, next_of, kept_next, all_kept, reached_within}
 use Rattle.tp_stn_undo.proofs.NoteFacts.{same_saves}
+use Rattle.tp_base.specs.Kept.{net_of, KeptRefutes}
 use Rattle.tp_stn_undo.proofs.propagation.spread.Goals as goal
 use Rattle.tp_stn_undo.proofs.propagation.spread.Goals.{then-reach-from+in-Ok, else-reach-from}
-
-pub follow-requires-clause-number : goal.follow-requires-clause-number
-follow-requires-clause-number c = reached_within c.args.links.now c.points.point c.edges.left c.edges.invariant.reached
 
 pub returns-in-Err-clause-back : goal.returns-in-Err-clause-back
 returns-in-Err-clause-back c = LeadsBack-trans c.args.links.now c.args.states.now c.edges.states c.follow.new.states c.args.working.now.changes.entries c.edges.working.changes.entries c.follow.new.working.changes.entries c.edges.invariant.back c.follow.ensures.back
@@ -51,64 +49,20 @@ module _ (links : List Link) (heads : List ℕ) (base states : List PointState) 
   next = next_of links heads (length base) point left (get_or links (left - 1) no_link).older heads_are reached some refl
 
 pub bounds-states-link : goal.bounds-states-link
-bounds-states-link c = (is_known c.args.links.now c.args.heads.now c.args.states.now c.edges.states c.points.point c.edges.left c.requires.heads c.requires.known c.edges.invariant.back.len c.edges.invariant.reached c.edges-test.true).to
+bounds-states-link c = (is_known c.args.links.now c.args.heads.now c.args.states.now c.edges.states c.points.point c.edges.left c.requires.heads c.requires.ready.bounded.known c.edges.invariant.back.len c.edges.invariant.reached c.edges-test.true).to
 
 pub overflow_add-reach : goal.overflow_add-reach
 overflow_add-reach c =
-    let k = is_known c.args.links.now c.args.heads.now c.args.states.now c.edges.states c.points.point c.edges.left c.requires.heads c.requires.known c.edges.invariant.back.len c.edges.invariant.reached c.edges-test.true in
+    let k = is_known c.args.links.now c.args.heads.now c.args.states.now c.edges.states c.points.point c.edges.left c.requires.heads c.requires.ready.bounded.known c.edges.invariant.back.len c.edges.invariant.reached c.edges-test.true in
     let a = k.least in
     let b = k.most in
     omega (arith, ints)
 
 pub bounds-states-point : goal.bounds-states-point
-bounds-states-point c = point_known c.args.links.now c.args.heads.now c.args.states.now c.edges.states c.points.point c.edges.left c.requires.heads c.requires.known c.edges.invariant.back.len c.edges.invariant.reached c.edges-test.true
-
-pub follow-requires-clause-reach : goal.follow-requires-clause-reach
-follow-requires-clause-reach c = λ e g.
-    let links = c.args.links.now in
-    let states = c.edges.states in
-    let w = is_known c.args.links.now c.args.heads.now c.args.states.now c.edges.states c.points.point c.edges.left c.requires.heads c.requires.known c.edges.invariant.back.len c.edges.invariant.reached c.edges-test.true in
-    let least = w.least in
-    let most = w.most in
-    let d = (get_or links (c.edges.left - 1) no_link).edge in
-    let begins = reached_from links c.points.point c.edges.left c.edges.invariant.reached c.edges-test.true in
-    let here : slice_index (times_of states) c.points.point ≡ slice_index (times_of states) d.from.0 = ap (slice_index (times_of states)) (sym begins) in
-    let at_from = time_at states c.points.point (point_known c.args.links.now c.args.heads.now c.args.states.now c.edges.states c.points.point c.edges.left c.requires.heads c.requires.known c.edges.invariant.back.len c.edges.invariant.reached c.edges-test.true) in
-    let same : d ≡ e = same_Some d e (sym (edge_at links c.edges.left no_link c.edges-test.true (within c.args.links.now c.args.heads.now c.args.states.now c.edges.states c.points.point c.edges.left c.requires.heads c.requires.known c.edges.invariant.back.len c.edges.invariant.reached c.edges-test.true)) ∙ g) in
-    let moved : (pos (slice_index (times_of states) d.from.0) +ℤ d.weight) ≡ (pos (slice_index (times_of states) e.from.0) +ℤ e.weight) = ap (λ (x : Edge). pos (slice_index (times_of states) x.from.0) +ℤ x.weight) same in
-    omega (arith, ints)
-
-pub follow-requires-clause-known : goal.follow-requires-clause-known
-follow-requires-clause-known c = all c.args.links.now c.args.heads.now c.args.states.now c.edges.states c.points.point c.edges.left c.requires.heads c.requires.known c.edges.invariant.back.len c.edges.invariant.reached c.edges-test.true
-
-pub follow-requires-clause-more : goal.follow-requires-clause-more
-follow-requires-clause-more c =
-    let links = c.args.links.now in
-    let states = c.edges.states in
-    let w = is_known c.args.links.now c.args.heads.now c.args.states.now c.edges.states c.points.point c.edges.left c.requires.heads c.requires.known c.edges.invariant.back.len c.edges.invariant.reached c.edges-test.true in
-    let least = w.least in
-    let most = w.most in
-    let d = (get_or links (c.edges.left - 1) no_link).edge in
-    let begins = reached_from links c.points.point c.edges.left c.edges.invariant.reached c.edges-test.true in
-    let here : slice_index (times_of states) c.points.point ≡ slice_index (times_of states) d.from.0 = ap (slice_index (times_of states)) (sym begins) in
-    let at_from = time_at states c.points.point (point_known c.args.links.now c.args.heads.now c.args.states.now c.edges.states c.points.point c.edges.left c.requires.heads c.requires.known c.edges.invariant.back.len c.edges.invariant.reached c.edges-test.true) in
-    let at_to = time_at states d.to.0 w.to in
-    let test = c.if-reach-from.true in
-    asks_more links states c.edges.left c.edges-test.true (within c.args.links.now c.args.heads.now c.args.states.now c.edges.states c.points.point c.edges.left c.requires.heads c.requires.known c.edges.invariant.back.len c.edges.invariant.reached c.edges-test.true) (all c.args.links.now c.args.heads.now c.args.states.now c.edges.states c.points.point c.edges.left c.requires.heads c.requires.known c.edges.invariant.back.len c.edges.invariant.reached c.edges-test.true) (omega (arith, ints))
-
-pub follow-requires-clause-supported : goal.follow-requires-clause-supported
-follow-requires-clause-supported c =
-    let links = c.args.links.now in
-    let states = c.edges.states in
-    let inv = c.edges.invariant in
-    subst (λ (ls : List ℕ). IsSupported ls (edges_of links) (slice_index (times_of states)) (cause_of (causes_of (edges_of links) states))) (sym inv.back.lows)
-    (risen_supported links c.args.states.now states c.args.caps.now c.requires.supported inv.back.len inv.rises)
-
-pub follow-requires-clause-numbered : goal.follow-requires-clause-numbered
-follow-requires-clause-numbered c = c.edges.invariant.back.numbered c.requires.numbered
+bounds-states-point c = point_known c.args.links.now c.args.heads.now c.args.states.now c.edges.states c.points.point c.edges.left c.requires.heads c.requires.ready.bounded.known c.edges.invariant.back.len c.edges.invariant.reached c.edges-test.true
 
 pub edges-smaller : goal.edges-smaller
-edges-smaller c = (next c.args.links.now c.args.heads.now c.args.states.now c.edges.states c.points.point c.edges.left c.requires.heads c.requires.known c.edges.invariant.back.len c.edges.invariant.reached c.edges-test.true).less
+edges-smaller c = (next c.args.links.now c.args.heads.now c.args.states.now c.edges.states c.points.point c.edges.left c.requires.heads c.requires.ready.bounded.known c.edges.invariant.back.len c.edges.invariant.reached c.edges-test.true).less
 
 pub edges-preserved : goal.edges-preserved
 edges-preserved c = elim c.if-reach-from.branch [
@@ -120,19 +74,19 @@ edges-preserved c = elim c.if-reach-from.branch [
       let point = c.points.point in
       let n = inv.back.len in
       let less = inv.less in
-      let less2 = o.less in
+      let less2 = o.follows.less in
       let p1 = inv.sizes.path in
       let p2 = e.sizes.path in
       let q1 = inv.sizes.places in
       let q2 = e.sizes.places in
       rw (w.states-is, w.working-is) (record {
         back = LeadsBack-trans links c.args.states.now c.edges.states w.follow.new.states c.args.working.now.changes.entries c.edges.working.changes.entries w.follow.new.working.changes.entries inv.back e.back;
-        rises = States-trans links c.args.states.now c.edges.states w.follow.new.states n inv.rises o.rises;
+        rises = States-trans links c.args.states.now c.edges.states w.follow.new.states n inv.rises o.follows.rises;
         below = e.below;
         sizes = record { waits = e.sizes.waits ∙ inv.sizes.waits; noted = same_saves inv.sizes.noted e.sizes.noted; path = omega arith; places = omega arith };
         waiting = subst (λ (m : ℕ). AreBelow m w.follow.new.working.waiting.points) n (e.known (subst (λ (m : ℕ). AreBelow m c.edges.working.waiting.points) (sym n) inv.waiting));
-        reached = (next c.args.links.now c.args.heads.now c.args.states.now c.edges.states c.points.point c.edges.left c.requires.heads c.requires.known c.edges.invariant.back.len c.edges.invariant.reached c.edges-test.true).reached;
-        kept = kept_next links point c.edges.left _ (slice_index (times_of w.follow.new.states)) w.follow.new.working.waiting.flags (next c.args.links.now c.args.heads.now c.args.states.now c.edges.states c.points.point c.edges.left c.requires.heads c.requires.known c.edges.invariant.back.len c.edges.invariant.reached c.edges-test.true) c.edges-test.true (o.kept (edges_of links) point c.edges.left inv.kept) o.met;
+        reached = (next c.args.links.now c.args.heads.now c.args.states.now c.edges.states c.points.point c.edges.left c.requires.heads c.requires.ready.bounded.known c.edges.invariant.back.len c.edges.invariant.reached c.edges-test.true).reached;
+        kept = kept_next links point c.edges.left _ (slice_index (times_of w.follow.new.states)) w.follow.new.working.waiting.flags (next c.args.links.now c.args.heads.now c.args.states.now c.edges.states c.points.point c.edges.left c.requires.heads c.requires.ready.bounded.known c.edges.invariant.back.len c.edges.invariant.reached c.edges-test.true) c.edges-test.true (o.follows.kept (edges_of links) point c.edges.left inv.kept) o.follows.met;
         less = omega arith;
         zeros = e.zeros;
       }))
@@ -140,13 +94,13 @@ edges-preserved c = elim c.if-reach-from.branch [
       let links = c.args.links.now in
       let states = c.edges.states in
       let inv = c.edges.invariant in
-      let known = is_known c.args.links.now c.args.heads.now c.args.states.now c.edges.states c.points.point c.edges.left c.requires.heads c.requires.known c.edges.invariant.back.len c.edges.invariant.reached c.edges-test.true in
+      let known = is_known c.args.links.now c.args.heads.now c.args.states.now c.edges.states c.points.point c.edges.left c.requires.heads c.requires.ready.bounded.known c.edges.invariant.back.len c.edges.invariant.reached c.edges-test.true in
       let least = known.least in
       let most = known.most in
       let d = (get_or links (c.edges.left - 1) no_link).edge in
       let begins = reached_from links c.points.point c.edges.left c.edges.invariant.reached c.edges-test.true in
       let here : slice_index (times_of states) c.points.point ≡ slice_index (times_of states) d.from.0 = ap (slice_index (times_of states)) (sym begins) in
-      let at_from = time_at states c.points.point (point_known c.args.links.now c.args.heads.now c.args.states.now c.edges.states c.points.point c.edges.left c.requires.heads c.requires.known c.edges.invariant.back.len c.edges.invariant.reached c.edges-test.true) in
+      let at_from = time_at states c.points.point (point_known c.args.links.now c.args.heads.now c.args.states.now c.edges.states c.points.point c.edges.left c.requires.heads c.requires.ready.bounded.known c.edges.invariant.back.len c.edges.invariant.reached c.edges-test.true) in
       let at_to = time_at states d.to.0 known.to in
       let test = w.if-reach-from.false in
       rw (w.states-is, w.working-is) (record {
@@ -155,9 +109,9 @@ edges-preserved c = elim c.if-reach-from.branch [
         below = inv.below;
         sizes = inv.sizes;
         waiting = inv.waiting;
-        reached = (next c.args.links.now c.args.heads.now c.args.states.now c.edges.states c.points.point c.edges.left c.requires.heads c.requires.known c.edges.invariant.back.len c.edges.invariant.reached c.edges-test.true).reached;
-        kept = kept_next links c.points.point c.edges.left _ (slice_index (times_of states)) c.edges.working.waiting.flags (next c.args.links.now c.args.heads.now c.args.states.now c.edges.states c.points.point c.edges.left c.requires.heads c.requires.known c.edges.invariant.back.len c.edges.invariant.reached c.edges-test.true) c.edges-test.true inv.kept
-            (met_same links states c.edges.left c.edges-test.true (within c.args.links.now c.args.heads.now c.args.states.now c.edges.states c.points.point c.edges.left c.requires.heads c.requires.known c.edges.invariant.back.len c.edges.invariant.reached c.edges-test.true) (all c.args.links.now c.args.heads.now c.args.states.now c.edges.states c.points.point c.edges.left c.requires.heads c.requires.known c.edges.invariant.back.len c.edges.invariant.reached c.edges-test.true) c.edges.working.waiting.flags (omega (arith, ints)));
+        reached = (next c.args.links.now c.args.heads.now c.args.states.now c.edges.states c.points.point c.edges.left c.requires.heads c.requires.ready.bounded.known c.edges.invariant.back.len c.edges.invariant.reached c.edges-test.true).reached;
+        kept = kept_next links c.points.point c.edges.left _ (slice_index (times_of states)) c.edges.working.waiting.flags (next c.args.links.now c.args.heads.now c.args.states.now c.edges.states c.points.point c.edges.left c.requires.heads c.requires.ready.bounded.known c.edges.invariant.back.len c.edges.invariant.reached c.edges-test.true) c.edges-test.true inv.kept
+            (met_same links states c.edges.left c.edges-test.true (within c.args.links.now c.args.heads.now c.args.states.now c.edges.states c.points.point c.edges.left c.requires.heads c.requires.ready.bounded.known c.edges.invariant.back.len c.edges.invariant.reached c.edges-test.true) (all c.args.links.now c.args.heads.now c.args.states.now c.edges.states c.points.point c.edges.left c.requires.heads c.requires.ready.bounded.known c.edges.invariant.back.len c.edges.invariant.reached c.edges-test.true) c.edges.working.waiting.flags (omega (arith, ints)));
         less = inv.less;
         zeros = inv.zeros;
       }))
@@ -192,11 +146,82 @@ points-preserved c =
       zeros = inv.zeros;
     }
 
-pub returns-in-None-clause-kept : goal.returns-in-None-clause-kept
-returns-in-None-clause-kept c =
+pub follow-requires-clause-asks : goal.follow-requires-clause-asks
+follow-requires-clause-asks c = record {
+  some = c.edges-test.true;
+  within = reached_within c.args.links.now c.points.point c.edges.left c.edges.invariant.reached;
+  more = (
+      let links = c.args.links.now in
+      let states = c.edges.states in
+      let w = is_known c.args.links.now c.args.heads.now c.args.states.now c.edges.states c.points.point c.edges.left c.requires.heads c.requires.ready.bounded.known c.edges.invariant.back.len c.edges.invariant.reached c.edges-test.true in
+      let least = w.least in
+      let most = w.most in
+      let d = (get_or links (c.edges.left - 1) no_link).edge in
+      let begins = reached_from links c.points.point c.edges.left c.edges.invariant.reached c.edges-test.true in
+      let here : slice_index (times_of states) c.points.point ≡ slice_index (times_of states) d.from.0 = ap (slice_index (times_of states)) (sym begins) in
+      let at_from = time_at states c.points.point (point_known c.args.links.now c.args.heads.now c.args.states.now c.edges.states c.points.point c.edges.left c.requires.heads c.requires.ready.bounded.known c.edges.invariant.back.len c.edges.invariant.reached c.edges-test.true) in
+      let at_to = time_at states d.to.0 w.to in
+      let test = c.if-reach-from.true in
+      asks_more links states c.edges.left c.edges-test.true (within c.args.links.now c.args.heads.now c.args.states.now c.edges.states c.points.point c.edges.left c.requires.heads c.requires.ready.bounded.known c.edges.invariant.back.len c.edges.invariant.reached c.edges-test.true) (all c.args.links.now c.args.heads.now c.args.states.now c.edges.states c.points.point c.edges.left c.requires.heads c.requires.ready.bounded.known c.edges.invariant.back.len c.edges.invariant.reached c.edges-test.true) (omega (arith, ints)));
+  asked = λ e g. (
+      let links = c.args.links.now in
+      let states = c.edges.states in
+      let w = is_known c.args.links.now c.args.heads.now c.args.states.now c.edges.states c.points.point c.edges.left c.requires.heads c.requires.ready.bounded.known c.edges.invariant.back.len c.edges.invariant.reached c.edges-test.true in
+      let least = w.least in
+      let most = w.most in
+      let d = (get_or links (c.edges.left - 1) no_link).edge in
+      let begins = reached_from links c.points.point c.edges.left c.edges.invariant.reached c.edges-test.true in
+      let here : slice_index (times_of states) c.points.point ≡ slice_index (times_of states) d.from.0 = ap (slice_index (times_of states)) (sym begins) in
+      let at_from = time_at states c.points.point (point_known c.args.links.now c.args.heads.now c.args.states.now c.edges.states c.points.point c.edges.left c.requires.heads c.requires.ready.bounded.known c.edges.invariant.back.len c.edges.invariant.reached c.edges-test.true) in
+      let same : d ≡ e = same_Some d e (sym (edge_at links c.edges.left no_link c.edges-test.true (within c.args.links.now c.args.heads.now c.args.states.now c.edges.states c.points.point c.edges.left c.requires.heads c.requires.ready.bounded.known c.edges.invariant.back.len c.edges.invariant.reached c.edges-test.true)) ∙ g) in
+      let moved : (pos (slice_index (times_of states) d.from.0) +ℤ d.weight) ≡ (pos (slice_index (times_of states) e.from.0) +ℤ e.weight) = ap (λ (x : Edge). pos (slice_index (times_of states) x.from.0) +ℤ x.weight) same in
+      omega (arith, ints));
+}
+
+pub follow-requires-clause-ready : goal.follow-requires-clause-ready
+follow-requires-clause-ready c =
+    let links = c.args.links.now in
+    let states = c.edges.states in
+    let inv = c.edges.invariant in
+    let ready = c.requires.ready in
+    let n = inv.back.len in
+    let small = ready.small in
+    let w = ready.capacity.waits in
+    let w2 = inv.sizes.waits in
+    let k = ready.capacity.noted in
+    let k2 = inv.sizes.noted.capacity in
+    let p = ready.capacity.path in
+    let p2 = inv.sizes.path in
+    let q = ready.capacity.places in
+    let q2 = inv.sizes.places in
+    record {
+      bounded = record {
+        known = all c.args.links.now c.args.heads.now c.args.states.now c.edges.states c.points.point c.edges.left c.requires.heads c.requires.ready.bounded.known c.edges.invariant.back.len c.edges.invariant.reached c.edges-test.true;
+        all_capped = ready.bounded.all_capped ∙ sym n;
+        below = inv.below;
+      };
+      supported = subst (λ (ls : List ℕ). IsSupported ls (edges_of links) (slice_index (times_of states)) (cause_of (causes_of (edges_of links) states))) (sym inv.back.lows)
+          (risen_supported links c.args.states.now states c.args.caps.now ready.supported inv.back.len inv.rises);
+      numbered = inv.back.numbered ready.numbered;
+      small = omega arith;
+      capacity = record { waits = omega arith; noted = omega arith; path = omega arith; places = omega arith };
+      zeros = inv.zeros;
+    }
+
+pub returns-in-Err-clause-refuted : goal.returns-in-Err-clause-refuted
+returns-in-Err-clause-refuted c =
+    subst (λ (ls : List ℕ). KeptRefutes (net_of ls c.args.caps.now (edges_of c.args.links.now)) c.in-Err.kept c.follow.new.working.path.items) c.edges.invariant.back.lows c.in-Err.ensures.refuted
+
+pub returns-in-None-clause-settled : goal.returns-in-None-clause-settled
+returns-in-None-clause-settled c =
     let links = c.args.links.now in
     let inv = c.edges.invariant in
     let end : c.edges.left ≡ 0 = omega (arith, c.edges-test.false) in
-    let all = kept_end (edges_of links) c.points.point (slice_index (times_of c.edges.states)) c.edges.working.waiting.flags (subst (KeptFrom (edges_of links) (slice_index (times_of c.edges.states)) c.edges.working.waiting.flags c.points.point) end inv.kept) in
-    all_kept (edges_of links) (slice_index (times_of c.edges.states)) c.edges.working.waiting.flags all
-    (λ v. ap (λ (fs : List Bool). flag fs v) (sym c.in-None.ensures.same) ∙ c.in-None.ensures.idle v)
+    let begun = kept_end (edges_of links) c.points.point (slice_index (times_of c.edges.states)) c.edges.working.waiting.flags (subst (KeptFrom (edges_of links) (slice_index (times_of c.edges.states)) c.edges.working.waiting.flags c.points.point) end inv.kept) in
+    record {
+      rises = inv.rises;
+      kept = all_kept (edges_of links) (slice_index (times_of c.edges.states)) c.edges.working.waiting.flags begun
+          (λ v. ap (λ (fs : List Bool). flag fs v) (sym c.in-None.ensures.same) ∙ c.in-None.ensures.idle v);
+      idle = c.in-None.ensures.idle;
+      none = c.in-None.ensures.none;
+    }

@@ -111,7 +111,7 @@ changed c =
       most = s.most ∙ e.sizes.noted.most;
       path = e.sizes.path;
       places = e.sizes.places;
-      rest = record { idle = e.idle; none = e.none; unchanged = s.none; zeros = e.zeros };
+      rest = record { idle = e.quiet.idle; none = e.quiet.none; unchanged = s.none; zeros = e.zeros };
     }
 
 holds : (c : After-save_changes) → HoldsTogether c.self.inside c.add_edges.new.states (c.self.inside.caps.items ++ c.args.cap ∷ []) c.add_edges.new.links.items c.add_edges.new.heads c.save_changes.new.changes.older
@@ -168,12 +168,12 @@ undone_changed c =
     let f = c.in-Err.ensures in
     let count : c.len-count.result ≡ length a.states.items = omega (arith, c.len-count.ensures, a.states.ok.0) in
     let nc : length a.caps.items ≡ c.len-count.result = omega (arith, count, inv.sound.caps) in
-    let states = mut_items p.states.len c.add_edges.new.states _ (c.add_edges.auto.states ∙ ap length c.deref_mut-2.ensures.value ∙ sym p.states.ok.0) ∙ f.states ∙ c.deref_mut-2.ensures.value ∙ q.states in
+    let states = mut_items p.states.len c.add_edges.new.states _ (c.add_edges.auto.states ∙ ap length c.deref_mut-2.ensures.value ∙ sym p.states.ok.0) ∙ f.taken_back.same_states ∙ c.deref_mut-2.ensures.value ∙ q.states in
     let heads = mut_items p.heads.len c.add_edges.new.heads _ (c.add_edges.auto.heads ∙ ap length c.deref_mut.ensures.value ∙ sym p.heads.ok.0) in
     record {
       states = c.truncate.ensures.items ∙ ap (take c.len-count.result) states ∙ take_at a.states.items (new_state c.args.low ∷ []) c.len-count.result (sym count);
       caps = c.truncate-in-Err.ensures.items ∙ ap (take c.len-count.result) q.caps ∙ take_at a.caps.items (c.args.cap ∷ []) c.len-count.result nc;
-      links = f.links;
+      links = f.taken_back.same_links;
       heads = c.truncate-in-Err-2.ensures.items ∙ ap (take c.len-count.result) heads ∙ ap (λ i. take i c.add_edges.new.heads) count;
       marks = refl;
       points_same = refl;
@@ -189,7 +189,7 @@ undone_changed c =
       most = e.sizes.noted.most;
       path = e.sizes.path;
       places = e.sizes.places;
-      rest = record { idle = e.idle; none = e.none; unchanged = f.unchanged; zeros = e.zeros };
+      rest = record { idle = e.quiet.idle; none = e.quiet.none; unchanged = f.taken_back.none; zeros = e.zeros };
     }
 
 undone_holds : (c : After-kept-in-Err-1) → HoldsTogether c.self.inside c.self.inside.states.items c.self.inside.caps.items c.self.inside.links.items (take (length c.self.inside.states.items) c.add_edges.new.heads) c.add_edges.new.working.changes.older
@@ -200,7 +200,7 @@ undone_holds c =
     let e = c.add_edges.ensures in
     let f = c.in-Err.ensures in
     let points = length-append a.states.items (new_state c.args.low ∷ []) in
-    let linked : AreLinks a.links.items c.add_edges.new.heads (length (a.states.items ++ new_state c.args.low ∷ [])) = same_links _ _ _ _ _ _ (sym f.links) refl (sym (ap length (c.deref_mut-2.ensures.value ∙ q.states))) e.linked in
+    let linked : AreLinks a.links.items c.add_edges.new.heads (length (a.states.items ++ new_state c.args.low ∷ [])) = same_links _ _ _ _ _ _ (sym f.taken_back.same_links) refl (sym (ap length (c.deref_mut-2.ensures.value ∙ q.states))) e.linked in
     subst (HoldsTogether a a.states.items a.caps.items a.links.items (take (length a.states.items) c.add_edges.new.heads)) (sym e.sizes.noted.older) (record {
       points = inv.points;
       edges = inv.edges;
@@ -292,24 +292,6 @@ add_edges-requires-clause-known c =
     let e : length c.args.self.now.net.lows + 1 ≡ length c.deref_mut-2.result.now = omega arith in
     subst (λ n. All (IsKnown n) c.args.edges.now) e c.requires.known
 
-pub add_edges-requires-clause-capacity : goal.add_edges-requires-clause-capacity
-add_edges-requires-clause-capacity c =
-    let v = ap (λ (s : LiveState). length s.net.edges) c.self.view_is in
-    let r = ap (λ (s : LiveState). s.max_edges) c.self.view_is in
-    let n = links_len c.self.inside.links.items in
-    let q = c.requires.spare in
-    let k = c.self.invariant.capacity.links in
-    omega arith
-
-pub add_edges-requires-clause-few : goal.add_edges-requires-clause-few
-add_edges-requires-clause-few c =
-    let v = ap (λ (s : LiveState). length s.net.edges) c.self.view_is in
-    let r = ap (λ (s : LiveState). s.max_edges) c.self.view_is in
-    let n = links_len c.self.inside.links.items in
-    let q = c.requires.spare in
-    let k = c.self.ranges in
-    omega arith
-
 pub returns-in-Ok-clause-added : goal.returns-in-Ok-clause-added
 returns-in-Ok-clause-added c =
     let a = c.self.inside in
@@ -317,3 +299,13 @@ returns-in-Ok-clause-added c =
     let h = changed c in
     same_net _ _ _ _ _ _ (ap lows_of h.states ∙ d.lows ∙ map-append (λ (s : PointState). s.low) a.states.items (new_state c.args.low ∷ [])) h.caps (linked_edges a.links.items c.add_edges.new.links.items c.args.edges.now d.linked)
     ∙ ap (λ (s : LiveState). with_edges (with_point s.net c.args.low c.args.cap) c.args.edges.now) c.self.view_is
+
+pub add_edges-requires-clause-room : goal.add_edges-requires-clause-room
+add_edges-requires-clause-room c =
+    let v = ap (λ (s : LiveState). length s.net.edges) c.self.view_is in
+    let r = ap (λ (s : LiveState). s.max_edges) c.self.view_is in
+    let n = links_len c.self.inside.links.items in
+    let q = c.requires.spare in
+    let k = c.self.invariant.capacity.links in
+    let g = c.self.ranges in
+    record { fits = omega arith; few = omega arith }

@@ -60,7 +60,7 @@ changed c =
       most = s.most ∙ e.sizes.noted.most;
       path = e.sizes.path;
       places = e.sizes.places;
-      rest = record { idle = e.idle; none = e.none; unchanged = s.none; zeros = e.zeros };
+      rest = record { idle = e.quiet.idle; none = e.quiet.none; unchanged = s.none; zeros = e.zeros };
     }
 
 holds : (c : After-save_changes) → HoldsTogether c.self.inside c.load_edges.new.states c.self.inside.caps.items c.load_edges.new.links.items c.load_edges.new.heads c.save_changes.new.changes.older

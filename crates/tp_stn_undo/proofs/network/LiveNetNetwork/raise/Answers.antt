@@ -4,7 +4,7 @@ use Rattle.std.specs.Vec.{with_items}
 use Rattle.tp_stn_undo.specs.declared.live_net.LiveNet.TheInside.{Inside}
 use Rattle.tp_base.specs.Net.{HasNoSolution, with_low}
 use Rattle.tp_base.specs.Refute.{IsLateChain}
-use Rattle.tp_base.specs.Grows.{AreWithin, IsSupported, cause_of}
+use Rattle.tp_base.specs.Grows.{AreWithin, IsSupported, cause_of, IsKnown}
 use Rattle.tp_base.specs.Kept.{net_of, KeptRefutes}
 use Rattle.tp_base.proofs.LeastFacts.{mut_items, raised_chain}
 use Rattle.tp_base.proofs.RisenFacts.{kept_refutes}
@@ -28,6 +28,7 @@ use Rattle.tp_stn_undo.specs.WorkingRoom.{KeepsSizes}
 use Rattle.tp_stn_undo.proofs.NoteFacts.{same_saves}
 use Rattle.tp_stn_undo.proofs.ChangedFacts.{IsChanged, HoldsTogether, as_it_was, changed_live, changed_past}
 use Rattle.tp_base.proofs.RefuteFacts.{chain_refutes}
+use Rattle.std.specs.List.{All}
 use Rattle.tp_stn_undo.proofs.network.LiveNetNetwork.raise.Goals as goal
 use Rattle.tp_stn_undo.proofs.network.LiveNetNetwork.raise.Goals.{After-self-1, After-lift, After-save_changes, After-kept-in-Err-1}
 
@@ -83,26 +84,6 @@ lift-requires-clause-known c =
     let d = ap length c.deref_mut.ensures.value in
     omega arith
 
-pub spread-requires-clause-below : goal.spread-requires-clause-below
-spread-requires-clause-below c =
-    let k = (goal.at.spread-requires-clause-below c).After-lift in
-    let a = c.self.inside in
-    let inv = c.self.invariant in
-    let nc = inv.sound.caps in
-    let kn = known k in
-    let i = get_or_read a.caps.items c.args.point.0 c.index.result.now (omega arith) c.index.ensures 0 in
-    let fit = c.if-low-index.false in
-    let nt = times_len a.states.items in
-    let n1 = times_len c.lift.new.states in
-    let ll = (lifts k).len in
-    let within : AreWithin a.caps.items (times_of c.lift.new.states) = λ j h. (lifts k).below (slice_index a.caps.items) (λ m g. within_of (core_in a) inv.sound m (omega arith)) (omega arith) j (omega arith) in
-    subst (λ (ss : List PointState). AreWithin c.deref.result.now (times_of ss)) (sym (c.deref_mut-2.ensures.value ∙ lifted k)) (subst (λ (cs : List ℕ). AreWithin cs (times_of c.lift.new.states)) (sym c.deref.ensures.value) within)
-
-pub spread-requires-clause-numbered : goal.spread-requires-clause-numbered
-spread-requires-clause-numbered c =
-    let k = (goal.at.spread-requires-clause-numbered c).After-lift in
-    rw (c.deref_mut-2.ensures.value ∙ lifted k, c.deref-2.ensures.value) ((lifts k).numbered c.self.inside.links.items c.self.invariant.sound.numbered)
-
 pub spread-requires-clause-kept : goal.spread-requires-clause-kept
 spread-requires-clause-kept c =
     let k = (goal.at.spread-requires-clause-kept c).After-lift in
@@ -140,9 +121,9 @@ sound c =
     let k = (goal.at.invariant_of-self-in-Ok c).After-lift in
     let a = c.self.inside in
     sound_lift a.states.items c.lift.new.states c.spread.new.states a.caps.items a.links.items c.args.point.0 c.args.low a.working.waiting.flags c.lift.new.waiting.flags c.lift.new.changes.entries c.spread.new.working.changes.entries c.self.invariant.sound (known k) (more k) (lifts k) (back c)
-    (rw (c.deref-2.ensures.value, c.deref_mut-2.ensures.value ∙ lifted k) at c.in-Ok.ensures.rises)
+    (rw (c.deref-2.ensures.value, c.deref_mut-2.ensures.value ∙ lifted k) at c.in-Ok.ensures.settled.rises)
     (rw c.deref.ensures.value at c.spread.ensures.below)
-    (rw c.deref-2.ensures.value at c.in-Ok.ensures.kept)
+    (rw c.deref-2.ensures.value at c.in-Ok.ensures.settled.kept)
 
 holds : (c : After-save_changes) → HoldsTogether c.self.inside c.spread.new.states c.self.inside.caps.items c.self.inside.links.items c.self.inside.heads.items c.save_changes.new.changes.older
 holds c =
@@ -201,7 +182,7 @@ changed_to c =
       most = s.most ∙ e.sizes.noted.most ∙ c.lift.ensures.same.most;
       path = e.sizes.path;
       places = e.sizes.places;
-      rest = record { idle = c.in-Ok.ensures.idle; none = c.in-Ok.ensures.none; unchanged = s.none; zeros = e.zeros };
+      rest = record { idle = c.in-Ok.ensures.settled.idle; none = c.in-Ok.ensures.settled.none; unchanged = s.none; zeros = e.zeros };
     }
 
 pub invariant_of-self-in-Ok : goal.invariant_of-self-in-Ok
@@ -298,13 +279,42 @@ put_back-requires c =
     let v = c.deref_mut-in-Err.ensures.value ∙ mut_items a.states.len c.spread.new.states _ (b.len ∙ lift_len k) in
     subst (λ n. AreKnown n c.spread.new.working.changes.entries) (sym (ap length v ∙ b.len ∙ (lifts k).len)) (changed k _ _ b)
 
-pub spread-requires-clause-supported : goal.spread-requires-clause-supported
-spread-requires-clause-supported c =
-    let k = (goal.at.spread-requires-clause-supported c).After-lift in
-    let states = c.lift.new.states in
-    subst (λ (ss : List PointState). IsSupported (lows_of ss) (edges_of c.deref-2.result.now) (slice_index (times_of ss)) (cause_of (causes_of (edges_of c.deref-2.result.now) ss))) (sym (c.deref_mut-2.ensures.value ∙ lifted k))
-    (subst (λ (ls : List Link). IsSupported (lows_of states) (edges_of ls) (slice_index (times_of states)) (cause_of (causes_of (edges_of ls) states))) (sym c.deref-2.ensures.value)
-    ((lifts k).supported c.self.inside.links.items c.self.invariant.sound.supported))
-
 pub spread-requires-clause-reached : goal.spread-requires-clause-reached
 spread-requires-clause-reached c = inl refl
+
+pub spread-requires-clause-ready : goal.spread-requires-clause-ready
+spread-requires-clause-ready c =
+    let k = (goal.at.spread-requires-clause-ready c).After-lift in
+    let a = c.self.inside in
+    let inv = c.self.invariant in
+    let nc = inv.sound.caps in
+    let kn = known k in
+    let i = get_or_read a.caps.items c.args.point.0 c.index.result.now (omega arith) c.index.ensures 0 in
+    let fit = c.if-low-index.false in
+    let nt = times_len a.states.items in
+    let n1 = times_len c.lift.new.states in
+    let ll = (lifts k).len in
+    let within : AreWithin a.caps.items (times_of c.lift.new.states) = λ j h. (lifts k).below (slice_index a.caps.items) (λ m g. within_of (core_in a) inv.sound m (omega arith)) (omega arith) j (omega arith) in
+    let links = a.links.items in
+    let states = c.lift.new.states in
+    let r = inv.capacity.working in
+    let points = inv.points in
+    let narrow = inv.capacity.narrow in
+    let w = r.waits in
+    let w2 = c.lift.ensures.waits in
+    let p = r.path in
+    let q = r.places in
+    let n3 = r.noted in
+    let n4 = c.lift.ensures.same.capacity in
+    rw (c.deref.ensures.value, c.deref_mut-2.ensures.value ∙ lifted k, c.deref-2.ensures.value) (record {
+      bounded = record {
+        known = subst (λ n. All (IsKnown n) (edges_of links)) (sym ll) inv.sound.known;
+        all_capped = inv.sound.caps ∙ sym ll;
+        below = within;
+      };
+      supported = (lifts k).supported links inv.sound.supported;
+      numbered = (lifts k).numbered links inv.sound.numbered;
+      small = omega arith;
+      capacity = record { waits = omega arith; noted = omega arith; path = omega arith; places = omega arith };
+      zeros = inv.rest.zeros;
+    })

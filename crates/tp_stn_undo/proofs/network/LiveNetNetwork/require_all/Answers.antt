@@ -65,7 +65,7 @@ changed c =
       most = s.most ∙ e.sizes.noted.most;
       path = e.sizes.path;
       places = e.sizes.places;
-      rest = record { idle = e.idle; none = e.none; unchanged = s.none; zeros = e.zeros };
+      rest = record { idle = e.quiet.idle; none = e.quiet.none; unchanged = s.none; zeros = e.zeros };
     }
 
 holds : (c : After-save_changes) → HoldsTogether c.self.inside c.add_edges.new.states c.self.inside.caps.items c.add_edges.new.links.items c.add_edges.new.heads c.save_changes.new.changes.older
@@ -98,9 +98,9 @@ invariant_of-self-in-Err c =
     let f = c.in-Err.ensures in
     changed_live a inv _ a.states.items a.caps.items a.links.items c.add_edges.new.heads
     (record {
-      states = mut_items a.states.len c.add_edges.new.states _ (c.add_edges.auto.states ∙ ap length c.deref_mut-2.ensures.value ∙ sym a.states.ok.0) ∙ f.states ∙ c.deref_mut-2.ensures.value;
+      states = mut_items a.states.len c.add_edges.new.states _ (c.add_edges.auto.states ∙ ap length c.deref_mut-2.ensures.value ∙ sym a.states.ok.0) ∙ f.taken_back.same_states ∙ c.deref_mut-2.ensures.value;
       caps = refl;
-      links = f.links;
+      links = f.taken_back.same_links;
       heads = mut_items a.heads.len c.add_edges.new.heads _ (c.add_edges.auto.heads ∙ ap length c.deref_mut.ensures.value ∙ sym a.heads.ok.0);
       marks = refl;
       points_same = refl;
@@ -116,14 +116,14 @@ invariant_of-self-in-Err c =
       most = e.sizes.noted.most;
       path = e.sizes.path;
       places = e.sizes.places;
-      rest = record { idle = e.idle; none = e.none; unchanged = f.unchanged; zeros = e.zeros };
+      rest = record { idle = e.quiet.idle; none = e.quiet.none; unchanged = f.taken_back.none; zeros = e.zeros };
     })
     (subst (HoldsTogether a a.states.items a.caps.items a.links.items c.add_edges.new.heads) (sym e.sizes.noted.older) (record {
       points = inv.points;
       edges = inv.edges;
       stack = stack_of a inv (length a.links.items) (omega arith);
       past = refl;
-      linked = same_links _ _ _ _ _ _ (sym f.links) refl (sym (ap length c.deref_mut-2.ensures.value)) e.linked;
+      linked = same_links _ _ _ _ _ _ (sym f.taken_back.same_links) refl (sym (ap length c.deref_mut-2.ensures.value)) e.linked;
       sound = inv.sound;
     }))
 
