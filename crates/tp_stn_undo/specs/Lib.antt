@@ -13,6 +13,7 @@ pub mod RaisedBounds
 pub mod Chains
 pub mod WorkingRoom
 pub mod Spread
+pub mod Restored
 pub mod AddedEdges
 pub mod Live
 pub mod Times

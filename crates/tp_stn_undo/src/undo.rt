@@ -1,7 +1,7 @@
 //! The live network goes back to its marks.
-ghost use Rattle.std.specs.Prelude.{◌≡◌, ℕ, ◌-◌, ◌<◌, ◌≤◌, [], length, take, drop, vec_capacity};
+ghost use Rattle.std.specs.Prelude.{◌≡◌, ℕ, ◌-◌, [], length, take, vec_capacity};
 ghost use Rattle.tp_stn_undo.specs.Marks.{IsAt};
-ghost use Rattle.tp_stn_undo.specs.Saved.{restored, relinked};
+ghost use Rattle.tp_stn_undo.specs.Restored.{HasNewest, IsCleared, at_mark};
 ghost use Rattle.tp_stn_undo.specs.Stacks.{IsStack};
 
 use crate::changes::Changes;
@@ -21,28 +21,27 @@ pub(crate) fn restore(
     marks: &mut Vec<LiveMark>,
     changes: &mut Changes,
 )
-    requires some { 0 < length marks.old.items }
+    requires newest { HasNewest marks.old.items (length links.old.items) }
     requires stack { (edges capacity : ℕ)
         × IsStack marks.old.items changes.old.older (length states.old.items) edges capacity }
     requires rest { changes.old.entries ≡ [] }
-    requires edges { IsAt marks.old.items (length marks.old.items - 1)
-        (λ m. m.edges ≤ length links.old.items) }
-    ensures states { IsAt marks.old.items (length marks.old.items - 1) (λ m.
-        states.new.items
-        ≡ restored (drop m.saved changes.old.older) (take m.points states.old.items)) }
-    ensures caps { IsAt marks.old.items (length marks.old.items - 1) (λ m.
-        caps.new.items ≡ take m.points caps.old.items) }
-    ensures links { IsAt marks.old.items (length marks.old.items - 1) (λ m.
-        links.new.items ≡ take m.edges links.old.items) }
-    ensures heads { IsAt marks.old.items (length marks.old.items - 1) (λ m.
-        heads.new.items
-        ≡ relinked (drop m.edges links.old.items) (take m.points heads.old.items)) }
-    ensures saved { IsAt marks.old.items (length marks.old.items - 1) (λ m.
-        changes.new.older ≡ take m.saved changes.old.older) }
+    ensures back { IsAt marks.old.items (length marks.old.items - 1) (λ m.
+        record {
+          states = states.new.items;
+          caps = caps.new.items;
+          links = links.new.items;
+          heads = heads.new.items;
+          saved = changes.new.older;
+        }
+        ≡ at_mark m (record {
+          states = states.old.items;
+          caps = caps.old.items;
+          links = links.old.items;
+          heads = heads.old.items;
+          saved = changes.old.older;
+        })) }
     ensures marks { marks.new.items ≡ take (length marks.old.items - 1) marks.old.items }
-    ensures rest { changes.new.entries ≡ [] }
-    ensures capacity { changes.new.capacity ≡ changes.old.capacity }
-    ensures most { changes.new.most ≡ changes.old.most }
+    ensures cleared { IsCleared changes.old changes.new }
     ensures states_capacity { vec_capacity states.new ≡ vec_capacity states.old }
     ensures caps_capacity { vec_capacity caps.new ≡ vec_capacity caps.old }
     ensures links_capacity { vec_capacity links.new ≡ vec_capacity links.old }

@@ -10,6 +10,7 @@ use Rattle.tp_stn_undo.specs.Live.{past_in}
 use Rattle.tp_stn_undo.specs.LiveState.{LiveState}
 use Rattle.tp_stn_undo.proofs.ChangeFacts.{stack_of}
 use Rattle.tp_stn_undo.proofs.BackFacts.{WentBack, back_past, back_content, back_live}
+use Rattle.tp_stn_undo.specs.Restored.{Lists}
 use Rattle.tp_stn_undo.proofs.live_net.LiveNet.undo_last.Goals as goal
 use Rattle.tp_stn_undo.proofs.live_net.LiveNet.undo_last.Goals.{After-restore}
 
@@ -58,14 +59,14 @@ went c =
       waiting_same = refl;
       path_same = refl;
       places_same = refl;
-      noted = e.capacity;
-      most = e.most;
-      unchanged = e.rest;
-      states = e.states;
-      caps = e.caps;
-      links = e.links;
-      heads = e.heads;
-      saved = e.saved;
+      noted = e.cleared.capacity;
+      most = e.cleared.most;
+      unchanged = e.cleared.none;
+      states = λ m g. ap (λ (l : Lists). l.states) (e.back m g);
+      caps = λ m g. ap (λ (l : Lists). l.caps) (e.back m g);
+      links = λ m g. ap (λ (l : Lists). l.links) (e.back m g);
+      heads = λ m g. ap (λ (l : Lists). l.heads) (e.back m g);
+      saved = λ m g. ap (λ (l : Lists). l.saved) (e.back m g);
       marks = e.marks;
       states_capacity = e.states_capacity;
       caps_capacity = e.caps_capacity;
@@ -94,3 +95,12 @@ returns-clause-past c =
     ∙ sym (take-map net_of_core n (past_in c.self.inside))
     ∙ ap (λ (s : LiveState). take n s.past) c.self.view_is
     ∙ ap (λ i. take i c.args.self.now.past) (sym (left k))
+
+pub restore-requires-clause-newest : goal.restore-requires-clause-newest
+restore-requires-clause-newest c =
+    let a = c.self.inside in
+    let r = c.requires in
+    let v = ap (λ (s : LiveState). length s.past) c.self.view_is in
+    let l = length-map a.marks.items (core_at a.working.changes.older a.states.items a.caps.items a.links.items) in
+    let n = length-map (past_in a) net_of_core in
+    record { some = omega arith; edges_below = λ m g. c.self.invariant.stacked.edges_below (length a.marks.items - 1) m g }
