@@ -3,7 +3,7 @@
 ghost use Rattle.std.specs.Prelude.{◌≡◌, ◌≢◌, ◌+◌, ◌<◌, ◌≤◌, ◌^◌, ℕ, List, [], length, true, Option, Err, OnOk, IfErr, IsErrOf};
 ghost use Rattle.tp_outside.specs.Outside.{Rises, IsCounted};
 ghost use Rattle.tp_words.specs.Parts.{lacks};
-ghost use Rattle.tp_stream.specs.Takes.{EndsIn, IsAtEnd, IsReadFrom, Stops, StopsBefore, TakesAll, place_of};
+ghost use Rattle.tp_stream.specs.Takes.{EndsIn, IsAtEnd, IsReadFrom, IsUnderWay, Stops, StopsBefore, TakesAll, place_of};
 ghost use Rattle.tp_stream.specs.declared.stop.Stop.{Stop};
 
 use crate::limits::Limits;
@@ -24,12 +24,7 @@ fn end_input<T: LineTaker, K: Sink>(
     count: u64,
     limits: Limits,
 ) -> Result<(), Stop>
-    requires bytes { limits.bytes + 2 < 2 ^ 32 }
-    requires open { lacks 10 line.now ≡ true }
-    requires fits { length line.now ≤ limits.bytes }
-    requires few { count ≤ limits.lines }
-    requires room { limits.lines ≤ count + T.room taker.old }
-    requires clear { T.text taker.old ≡ [] }
+    requires { IsUnderWay limits line.now count (T.room taker.old) (T.text taker.old) }
     ensures all { OnOk result (EndsIn T.answers limits.bytes limits.lines
         (place_of (T.state taker.old) count (K.taken sink.old)) line.now (T.state taker.new)
         (K.taken sink.new)) }

@@ -3,7 +3,7 @@
 ghost use Rattle.std.specs.Prelude.{◌≡◌, ◌≢◌, ◌+◌, ◌<◌, ◌≤◌, ◌^◌, ◌++◌, ℕ, List, [], ◌∷◌, length, Option, true, OnOk, IfErr, IsErrOf, Err};
 ghost use Rattle.tp_outside.specs.Outside.{Rises, IsCounted};
 ghost use Rattle.tp_words.specs.Parts.{lacks};
-ghost use Rattle.tp_stream.specs.Takes.{IsAnswered, IsNotAnswered, IsOpenStop, Stops, StopsBefore, Takes, place_of};
+ghost use Rattle.tp_stream.specs.Takes.{IsAnswered, IsNotAnswered, IsOpenStop, IsUnderWay, Stops, StopsBefore, Takes, place_of};
 ghost use Rattle.tp_stream.specs.declared.stop.Stop.{Stop};
 
 use crate::limits::Limits;
@@ -56,23 +56,17 @@ fn end_line<T: LineTaker, K: Sink>(
     body: &[u8],
     limits: Limits,
 ) -> Result<(), Stop>
-    requires bytes { limits.bytes + 2 < 2 ^ 32 }
-    requires open { lacks 10 line.old.items ≡ true }
+    requires under_way { IsUnderWay limits line.old.items count.old (T.room taker.old)
+        (T.text taker.old) }
     requires body { lacks 10 body.now ≡ true }
-    requires fits { length line.old.items ≤ limits.bytes }
-    requires few { count.old ≤ limits.lines }
-    requires lines { limits.lines + 1 < 2 ^ 64 }
-    requires room { limits.lines ≤ count.old + T.room taker.old }
-    requires clear { T.text taker.old ≡ [] }
     ensures answered { OnOk result (IsAnswered T.answers
         (place_of (T.state taker.old) count.old (K.taken sink.old))
         (line.old.items ++ body.now ++ 10 ∷ []) (T.state taker.new) (K.taken sink.new)) }
     ensures fits { OnOk result (length line.old.items + length body.now ≤ limits.bytes) }
     ensures empty { OnOk result (line.new.items ≡ []) }
     ensures next { OnOk result (count.new ≡ count.old + 1) }
-    ensures few { OnOk result (count.new ≤ limits.lines) }
-    ensures clear { OnOk result (T.text taker.new ≡ []) }
-    ensures room { OnOk result (limits.lines ≤ count.new + T.room taker.new) }
+    ensures under_way { OnOk result (IsUnderWay limits line.new.items count.new
+        (T.room taker.new) (T.text taker.new)) }
     ensures stops { (left left' : Option (List ℕ)) (more : List ℕ) → IfErr result (λ stop.
         StopsBefore T.answers T.refuses limits.bytes limits.lines left left' stop
         (line.old.items ++ body.now ++ 10 ∷ more) (place_of (T.state taker.old) count.old
@@ -126,21 +120,13 @@ pub(crate) fn take_chunk<T: LineTaker, K: Sink>(
     chunk: &[u8],
     limits: Limits,
 ) -> Result<(), Stop>
-    requires bytes { limits.bytes + 2 < 2 ^ 32 }
-    requires open { lacks 10 line.old.items ≡ true }
-    requires fits { length line.old.items ≤ limits.bytes }
-    requires few { count.old ≤ limits.lines }
-    requires lines { limits.lines + 1 < 2 ^ 64 }
-    requires room { limits.lines ≤ count.old + T.room taker.old }
-    requires clear { T.text taker.old ≡ [] }
+    requires under_way { IsUnderWay limits line.old.items count.old (T.room taker.old)
+        (T.text taker.old) }
     ensures takes { OnOk result (Takes T.answers limits.bytes
         (place_of (T.state taker.old) count.old (K.taken sink.old)) (line.old.items ++ chunk.now)
         line.new.items (place_of (T.state taker.new) count.new (K.taken sink.new))) }
-    ensures open { OnOk result (lacks 10 line.new.items ≡ true) }
-    ensures fits { OnOk result (length line.new.items ≤ limits.bytes) }
-    ensures few { OnOk result (count.new ≤ limits.lines) }
-    ensures clear { OnOk result (T.text taker.new ≡ []) }
-    ensures room { OnOk result (limits.lines ≤ count.new + T.room taker.new) }
+    ensures under_way { OnOk result (IsUnderWay limits line.new.items count.new
+        (T.room taker.new) (T.text taker.new)) }
     ensures stops { (left left' : Option (List ℕ)) → IfErr result (λ stop.
         Stops T.answers T.refuses limits.bytes limits.lines left left'
         (place_of (T.state taker.old) count.old (K.taken sink.old)) (line.old.items ++ chunk.now)
