@@ -1,11 +1,11 @@
 -- One name more is a text.
-use Rattle.std.proofs.Common.{◌≡◌, ◌+◌, ◌<◌, [], ◌∷◌, ◌++◌, length, get_or, sym, ap, ap₂, subst, ◌∙◌, arith, length-append}
+use Rattle.std.proofs.Common.{◌≡◌, ◌+◌, ◌<◌, [], ◌∷◌, ◌++◌, length, get_or, refl, sym, ap, ap₂, subst, ◌∙◌, arith, length-append}
 use Rattle.std.specs.List.{All}
 use Rattle.std.proofs.lemmas.List.{length-map, map-append, take_more}
 use Rattle.std.proofs.lemmas.List.Elements.{All-more}
 use Rattle.tp_words.specs.Parts.{shown}
 use Rattle.tp_farm.specs.Lists.{IsFileName}
-use Rattle.tp_farm.proofs.ListFacts.{get_or-shown}
+use Rattle.tp_farm.proofs.ListFacts.{bad-at, get_or-shown}
 use Rattle.tp_farm.proofs.machine_list.name_texts.Goals as goal
 
 pub loop-place-preserved : goal.loop-place-preserved
@@ -25,3 +25,6 @@ loop-place-preserved c =
 
 pub returns-clause-good : goal.returns-clause-good
 returns-clause-good c = subst (All IsFileName) (sym c.loop-place.invariant.texts) c.loop-place.invariant.good
+
+pub returns-in-None-clause-none : goal.returns-in-None-clause-none
+returns-in-None-clause-none c = bad-at c.args.names.now c.loop-place.place _ (omega arith) c.loop-place.invariant.good (c.in-None.ensures.none refl)
