@@ -1,12 +1,16 @@
 -- The ten rules of a snapshot, which of them is broken first, and what a snapshot is.
-use Rattle.std.specs.Prelude.{◌≡◌, ◌⊎◌, ℕ, ◌-◌, ◌≤◌, Bool, ◌&&◌, List, [], ◌∷◌, Some, IsTrue, codes, is_some}
+use Rattle.std.specs.Prelude.{◌≡◌, ◌⊎◌, ℕ, ◌-◌, ◌≤◌, Bool, ◌&&◌, List, [], ◌∷◌, Option, Some, IsTrue, codes, is_some}
 use Rattle.std.specs.List.{list_all}
 use Rattle.serde_json.specs.Data.{Data}
 use Rattle.serde_json.specs.Find.{as_str, get}
 use Rattle.tp_machine.specs.declared.machine.Machine.{Machine}
+use Rattle.tp_machine.specs.declared.parts.Outs.{Outs}
 use Rattle.tp_machine_text.specs.Texts.{IsMachineText}
 use Rattle.tp_jobs.specs.Backlogs.{names_of}
+use Rattle.tp_jobs.specs.declared.parts.Job.{Job}
+use Rattle.tp_jobs.specs.declared.parts.WaitingCopy.{WaitingCopy}
 use Rattle.tp_jobs.specs.declared.standing.Standing.{Standing}
+use Rattle.tp_schedule.specs.declared.parts.Plan.{Plan}
 use Rattle.tp_snapshot_rules.specs.Rules.{AreInOrder, AreKeptTo, KeepsWaiting}
 use Rattle.tp_snapshot.specs.Jobs.{DoNamesDiffer, jobs_of}
 use Rattle.tp_snapshot.specs.Moments.{now_of, outs_of, stock_of}
@@ -53,6 +57,13 @@ pub record TellsWaiting (machine : Machine) (d : Data) (t : Standing) : Type 0 w
   pub waiting : waiting_of (names_of t.jobs) d ≡ Some t.waiting
   pub keeps : KeepsWaiting machine t
 
+-- The copies of these jobs are told at this moment: those with a plan in the order of copies, and those that wait. The jobs' names differ.
+pub record TellsCopies (machine : Machine) (now : ℕ) (jobs : List Job) (d : Data) (planned : List Plan) (held : List WaitingCopy) : Type 0 where
+  pub differ : DoNamesDiffer jobs
+  pub plans : plans_of machine now jobs d ≡ Some planned
+  pub in_order : AreInOrder planned
+  pub waiting : waiting_of (names_of jobs) d ≡ Some held
+
 -- the rules from 3 to this one are kept, with the machine and what the value tells of the standing; what a later rule tells is free
 pub record KeepsTo (n : ℕ) (machine : Machine) (d : Data) (t : Standing) : Type 0 where
   pub moment : 3 ≤ n → TellsMoment machine d t
@@ -78,6 +89,15 @@ pub record BreaksOf (n : ℕ) (machine : Machine) (d : Data) : Type 0 where
   pub to : n ≤ 10
   pub before : (t : Standing) × KeepsTo (n - 1) machine d t
   pub broken : (t : Standing) → ¬ KeepsTo n machine d t
+
+-- a standing with these jobs and without copies
+abbrev pub without_copies : ℕ → Outs → List (Option ℕ) → List Job → Standing
+without_copies now outs stock jobs = record { now = now; outs = outs; stock = stock; jobs = jobs; waiting = []; plans = [] }
+
+-- the rule of this number is the first that is broken, if the value tells this moment and these jobs
+abbrev pub BreaksFrom : ℕ → Machine → ℕ → List Job → Data → Type 0
+BreaksFrom n machine now jobs d = (outs : Outs) (stock : List (Option ℕ))
+    → TellsMoment machine d (without_copies now outs stock jobs) → jobs_of machine d ≡ Some jobs → BreaksOf n machine d
 
 pub record BreaksStanding (n : ℕ) (d : Data) : Type 0 where
   pub keys : HasKeys d

@@ -27,6 +27,10 @@ whole_data n = number (unsigned n)
 abbrev pub texts : List (List ℕ) → Data
 texts names = array (items_of (map string names))
 
+-- an array of what each of the items is written as
+abbrev pub list_data : {A : Type 0} → (A → Data) → List A → Data
+list_data data_of xs = array (items_of (map data_of xs))
+
 abbrev pub job_data : Machine → Job → Data
 job_data machine j =
     object (member (codes "broken") (boolean j.broken)

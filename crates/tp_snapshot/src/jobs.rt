@@ -1,10 +1,11 @@
 //! The jobs of a snapshot, read and written.
-ghost use Rattle.std.specs.Prelude.{◌≡◌, IfOk, codes, map, true};
+ghost use Rattle.std.specs.Prelude.{◌≡◌, IfOk, OnOk, codes, map, true};
 ghost use Rattle.std.specs.List.{list_all};
-ghost use Rattle.serde_json.specs.Data.{array, boolean, member, no_members, object};
-ghost use Rattle.serde_json.specs.View.{items_of, view};
+ghost use Rattle.serde_json.specs.Data.{array, boolean, put as with_member, string};
+ghost use Rattle.serde_json.specs.View.{items_of, members_view, view};
 ghost use Rattle.tp_machine.specs.Rules.{is_among};
 ghost use Rattle.tp_jobs.specs.JobRefusals.{tray_named};
+ghost use Rattle.tp_event_rules.specs.Labels.{location_name};
 ghost use Rattle.tp_session_standing.specs.Sound.{most_jobs};
 ghost use Rattle.tp_snapshot.specs.Jobs.{job_of, jobs_of, tray_in};
 ghost use Rattle.tp_snapshot.specs.Values.{few_read, field_of};
@@ -12,8 +13,8 @@ ghost use Rattle.tp_snapshot.specs.Written.{has_location, job_data};
 
 use crate::json_lookup::{has_members, name_at, read_name, truth_at, value_at, values_at};
 use crate::json_values::name_value;
-use serde_json::{Value, json};
-use std::alloc::{AllocError, Global};
+use serde_json::{Map, Value, put};
+use std::alloc::Global;
 use tp_base::{Items, Memory, Name};
 use tp_event_records::location_name;
 use tp_jobs::{JobRow, JobRows};
@@ -98,20 +99,38 @@ pub(crate) fn read_jobs(
     }
 }
 
-fn job_object(alloc: Global, broken: bool, name: Value, tray: Value) -> Result<Value, AllocError>
-    ensures { IfOk result (λ value. view value ≡ object (member (codes "broken") (boolean broken)
-        (member (codes "name") (view name) (member (codes "tray") (view tray) no_members)))) }
+/// Puts what a job is into the members of its object.
+fn put_job(
+    alloc: Global,
+    members: &mut Map<String, Value>,
+    machine: &Machine,
+    job: &JobRow,
+) -> Result<(), Memory>
+    requires { has_location machine.now job.now ≡ true }
+    ensures { OnOk result (members_view members.new.entries
+        ≡ with_member (codes "tray") (string (location_name machine.now job.now.tray))
+        (with_member (codes "name") (string job.now.name)
+        (with_member (codes "broken") (boolean job.now.broken)
+        (members_view members.old.entries)))) }
 {
-    json!(in alloc; {"broken": broken, "name": name, "tray": tray})
+    put(members, alloc, "broken", Value::from(job.broken))?;
+    put(members, alloc, "name", name_value(alloc, &job.name)?)?;
+    put(
+        members,
+        alloc,
+        "tray",
+        name_value(alloc, &location_name(machine, job.tray))?,
+    )?;
+    Ok(())
 }
 
 fn job_value(alloc: Global, machine: &Machine, job: &JobRow) -> Result<Value, Memory>
     requires { has_location machine.now job.now ≡ true }
     ensures { IfOk result (λ value. view value ≡ job_data machine.now job.now) }
 {
-    let name = name_value(alloc, &job.name)?;
-    let tray = name_value(alloc, &location_name(machine, job.tray))?;
-    Ok(job_object(alloc, job.broken, name, tray)?)
+    let mut members = Map::new(alloc);
+    put_job(alloc, &mut members, machine, job)?;
+    Ok(Value::Object(members))
 }
 
 /// An array of the jobs.

@@ -1,5 +1,5 @@
 //! What a value of JSON is read as.
-ghost use Rattle.std.specs.Prelude.{◌≡◌, is_some, map, option_map};
+ghost use Rattle.std.specs.Prelude.{◌≡◌, ◌≤◌, IfSome, is_some, map, option_map};
 ghost use Rattle.serde_json.specs.Find.{as_bool, as_str, get};
 ghost use Rattle.serde_json.specs.View.{view};
 ghost use Rattle.tp_snapshot.specs.Values.{field_of, has_members, list_of, name_in, whole_of};
@@ -72,7 +72,8 @@ pub(crate) fn name_at(value: &Value, key: &str) -> Option<Name>
 
 /// The whole number that a value is, where it is at most so much.
 pub(crate) fn read_whole(value: &Value, most: u32) -> Option<u32>
-    ensures { result ≡ whole_of most (view value.now) }
+    ensures whole { result ≡ whole_of most (view value.now) }
+    ensures within { IfSome result (λ n. n ≤ most) }
 {
     let number = value.as_u64()?;
     if number <= u64::from(most) {

@@ -1,8 +1,9 @@
 //! The moment of a snapshot, the modules that are out, and what is free at the feeders.
-ghost use Rattle.std.specs.Prelude.{◌≡◌, ◌≤◌, ◌<◌, ◌^◌, IfOk, length, map};
+ghost use Rattle.std.specs.Prelude.{◌≡◌, ◌≤◌, ◌<◌, ◌^◌, IfOk, IfSome, length, map};
 ghost use Rattle.serde_json.specs.Data.{array};
 ghost use Rattle.serde_json.specs.View.{items_of, view};
 ghost use Rattle.tp_machine.specs.Limits.{most_modules};
+ghost use Rattle.tp_schedule.specs.PlannerAnswers.{last_tick};
 ghost use Rattle.tp_snapshot.specs.Moments.{free_in, is_text, none_out, now_of, out_from, outs_of, stock_from, stock_of};
 ghost use Rattle.tp_snapshot.specs.Written.{out_names, stock_data, texts};
 
@@ -21,7 +22,8 @@ const MOST_FREE: u32 = 1_000_256;
 
 /// The moment of a snapshot.
 pub(crate) fn read_now(value: &Value) -> Option<Tick>
-    ensures { result ≡ now_of (view value.now) }
+    ensures moment { result ≡ now_of (view value.now) }
+    ensures within { IfSome result (λ now. now ≤ last_tick) }
 {
     read_whole(value_at(value, "now")?, LAST_MOMENT)
 }
@@ -106,6 +108,7 @@ pub(crate) fn read_stock(
 ) -> Result<Option<StockRows>, Memory>
     ensures { IfOk result (λ stock. stock ≡ stock_of machine.now (view value.now)) }
 {
+    // For the prover: brings length feeders < 2^32.
     let _few = machine.feeders.len();
     match values_at(value, "stock") {
         Some(values) => stock_in(alloc, machine.feeders.as_slice(), values),

@@ -1,9 +1,9 @@
 //! The plans of a snapshot, read and written.
-ghost use Rattle.std.specs.Prelude.{◌≡◌, ◌+◌, ◌≤◌, ◌<◌, ◌^◌, IfOk, IfSome, codes, length, nat_le, map, not, position, slice_get, true};
+ghost use Rattle.std.specs.Prelude.{◌≡◌, ◌+◌, ◌≤◌, ◌<◌, ◌^◌, IfOk, IfSome, OnOk, codes, length, nat_le, map, not, position, slice_get, true};
 ghost use Rattle.std.specs.List.{list_all, prefix_len};
 ghost use Rattle.std.specs.Str.{bytes_eq};
-ghost use Rattle.serde_json.specs.Data.{array, boolean, member, no_members, object};
-ghost use Rattle.serde_json.specs.View.{items_of, view};
+ghost use Rattle.serde_json.specs.Data.{array, boolean, put as with_member};
+ghost use Rattle.serde_json.specs.View.{items_of, members_view, view};
 ghost use Rattle.tp_machine.specs.Limits.{most_actions};
 ghost use Rattle.tp_schedule.specs.Limits.{most_acts, most_live, most_plan_points};
 ghost use Rattle.tp_schedule.specs.PlannerAnswers.{last_tick};
@@ -12,7 +12,7 @@ ghost use Rattle.tp_jobs.specs.Backlogs.{names_of};
 ghost use Rattle.tp_session_standing.specs.Sound.{last_point};
 ghost use Rattle.tp_snapshot.specs.Plans.{act_in, act_named, course_of, goal_in, kind_of, owner_of, plan_of, plan_with, plans_of, released_of};
 ghost use Rattle.tp_snapshot.specs.Values.{few_read, field_of, whole_of};
-ghost use Rattle.tp_snapshot.specs.Written.{act_data, goal_data, is_action, is_goal_known, is_plan_known, plan_data, whole_data};
+ghost use Rattle.tp_snapshot.specs.Written.{act_data, copy_data, goal_data, is_action, is_goal_known, is_plan_known, list_data, plan_data, want_data, whole_data};
 
 use crate::copies::{copy_value, want_value};
 use crate::course::{Owner, TimedActs};
@@ -21,8 +21,8 @@ use crate::json_lookup::{has_members, read_name, read_whole, truth_at, value_at,
 use crate::json_values::name_value;
 use crate::waiting_copies::{copy_at, want_at};
 use indexmap::IndexSet;
-use serde_json::{Value, json};
-use std::alloc::{AllocError, Global};
+use serde_json::{Map, Value, put};
+use std::alloc::Global;
 use tp_base::{Items, Memory, Name, Tick};
 use tp_event_records::{action_name, location_name};
 use tp_jobs::{JobRow, PlanRows};
@@ -310,31 +310,6 @@ fn goal_value(alloc: Global, machine: &Machine, goal: Goal) -> Result<Value, Mem
     }
 }
 
-/// The parts of a plan as one value.
-fn plan_object(
-    alloc: Global,
-    lists: (Value, Value),
-    goal: Value,
-    sheet: Value,
-    want: Value,
-    whole: bool,
-) -> Result<Value, AllocError>
-    ensures { IfOk result (λ value. view value ≡ object (member (codes "acts") (view lists.0)
-        (member (codes "goal") (view goal) (member (codes "points") (view lists.1)
-        (member (codes "sheet") (view sheet) (member (codes "want") (view want)
-        (member (codes "whole") (boolean whole) no_members))))))) }
-{
-    let (acts, points) = lists;
-    json!(in alloc; {
-        "acts": acts,
-        "goal": goal,
-        "points": points,
-        "sheet": sheet,
-        "want": want,
-        "whole": whole,
-    })
-}
-
 fn is_whole(kind: Kind) -> bool
     ensures { result ≡ not (is_front kind) }
 {
@@ -344,29 +319,61 @@ fn is_whole(kind: Kind) -> bool
     }
 }
 
-/// The actions of a plan, and their points.
-fn course_values(alloc: Global, machine: &Machine, plan: &Plan) -> Result<(Value, Value), Memory>
-    requires { list_all (is_action machine.now) plan.now.acts ≡ true }
-    ensures acts { IfOk result (λ values. view values.0
-        ≡ array (items_of (map (act_data machine.now) plan.now.acts))) }
-    ensures points { IfOk result (λ values. view values.1
-        ≡ array (items_of (map whole_data plan.now.points))) }
+/// Puts what a plan is into the members of its object.
+#[tactic(auto, unfolding(crate::specs::Written::is_plan_known))]
+fn put_plan(
+    alloc: Global,
+    members: &mut Map<String, Value>,
+    machine: &Machine,
+    plan: &Plan,
+) -> Result<(), Memory>
+    requires { is_plan_known machine.now plan.now ≡ true }
+    ensures { OnOk result (members_view members.new.entries
+        ≡ with_member (codes "whole") (boolean (not (is_front plan.now.kind)))
+        (with_member (codes "want") (want_data plan.now.want)
+        (with_member (codes "sheet") (copy_data plan.now.name plan.now.sheet)
+        (with_member (codes "points") (list_data whole_data plan.now.points)
+        (with_member (codes "goal") (goal_data machine.now plan.now.goal)
+        (with_member (codes "acts") (list_data (act_data machine.now) plan.now.acts)
+        (members_view members.old.entries))))))) }
 {
-    let acts = acts_value(alloc, machine, plan.acts.as_slice())?;
-    let points = points_value(alloc, plan.points.as_slice())?;
-    Ok((acts, points))
+    put(
+        members,
+        alloc,
+        "acts",
+        acts_value(alloc, machine, plan.acts.as_slice())?,
+    )?;
+    put(
+        members,
+        alloc,
+        "goal",
+        goal_value(alloc, machine, plan.goal)?,
+    )?;
+    put(
+        members,
+        alloc,
+        "points",
+        points_value(alloc, plan.points.as_slice())?,
+    )?;
+    put(
+        members,
+        alloc,
+        "sheet",
+        copy_value(alloc, plan.name, plan.sheet)?,
+    )?;
+    put(members, alloc, "want", want_value(alloc, &plan.want)?)?;
+    put(members, alloc, "whole", Value::from(is_whole(plan.kind)))?;
+    Ok(())
 }
 
-#[tactic(auto, unfolding(crate::specs::Written::plan_data, crate::specs::Written::is_plan_known))]
+#[tactic(auto, unfolding(crate::specs::Written::plan_data))]
 fn plan_value(alloc: Global, machine: &Machine, plan: &Plan) -> Result<Value, Memory>
     requires { is_plan_known machine.now plan.now ≡ true }
     ensures { IfOk result (λ value. view value ≡ plan_data machine.now plan.now) }
 {
-    let lists = course_values(alloc, machine, plan)?;
-    let goal = goal_value(alloc, machine, plan.goal)?;
-    let sheet = copy_value(alloc, plan.name, plan.sheet)?;
-    let want = want_value(alloc, &plan.want)?;
-    Ok(plan_object(alloc, lists, goal, sheet, want, is_whole(plan.kind))?)
+    let mut members = Map::new(alloc);
+    put_plan(alloc, &mut members, machine, plan)?;
+    Ok(Value::Object(members))
 }
 
 /// An array of the plans.

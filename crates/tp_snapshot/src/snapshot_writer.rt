@@ -1,13 +1,13 @@
 //! A snapshot written.
-ghost use Rattle.std.specs.Prelude.{◌≡◌, IfOk, IsUtf8, codes, true};
-ghost use Rattle.serde_json.specs.Data.{member, no_members, object};
-ghost use Rattle.serde_json.specs.View.{view};
+ghost use Rattle.std.specs.Prelude.{◌≡◌, IfOk, IsUtf8, OnOk, codes, true};
+ghost use Rattle.serde_json.specs.Data.{put as with_member, string};
+ghost use Rattle.serde_json.specs.View.{members_view, view};
 ghost use Rattle.tp_words.specs.Parts.{lacks};
 ghost use Rattle.tp_session_standing.specs.Sound.{IsSound};
 ghost use Rattle.tp_snapshot.specs.Laws.{IsSpelled};
 ghost use Rattle.tp_snapshot.specs.Rules.{IsSnapshot};
 ghost use Rattle.tp_snapshot.specs.Texts.{HasNames, IsWritten};
-ghost use Rattle.tp_snapshot.specs.Written.{snapshot_data, whole_data};
+ghost use Rattle.tp_snapshot.specs.Written.{job_data, list_data, out_names, plan_data, snapshot_data, stock_data, texts, wait_data, whole_data};
 
 use crate::jobs::jobs_value;
 use crate::json_values::text_value;
@@ -15,49 +15,86 @@ use crate::moments::{outs_value, stock_value};
 use crate::plans::plans_value;
 use crate::standing_rules::standing_law;
 use crate::waiting_copies::waiting_value;
-use serde_json::{Value, json};
-use std::alloc::{AllocError, Global};
-use tp_base::{Memory, Tick};
+use serde_json::{Map, Value, put};
+use std::alloc::Global;
+use tp_base::Memory;
 use tp_jobs::Standing;
 use tp_machine::{Machine, machine_law};
 use tp_machine_text::print_machine;
 
-/// The parts of a snapshot as values: its machine's text, and of its standing all but the moment.
-#[derive(Drop)]
-struct Parts {
-    jobs: Value,
-    machine: Value,
-    out: Value,
-    plans: Value,
-    stock: Value,
-    waiting: Value,
+/// Puts the format, the jobs, the machine's text and the moment into the members of a snapshot.
+fn put_first_members(
+    alloc: Global,
+    members: &mut Map<String, Value>,
+    text: &[u8],
+    machine: &Machine,
+    standing: &Standing,
+) -> Result<(), Memory>
+    requires utf8 { IsUtf8 text.now }
+    requires named { HasNames machine.now standing.now }
+    ensures { OnOk result (members_view members.new.entries
+        ≡ with_member (codes "now") (whole_data standing.entry.now.now)
+        (with_member (codes "machine") (string text.now)
+        (with_member (codes "jobs") (list_data (job_data machine.now) standing.entry.now.jobs)
+        (with_member (codes "format") (whole_data 1) (members_view members.old.entries))))) }
+{
+    put(members, alloc, "format", Value::from(1u32))?;
+    put(
+        members,
+        alloc,
+        "jobs",
+        jobs_value(alloc, machine, standing.jobs.as_slice())?,
+    )?;
+    put(members, alloc, "machine", text_value(alloc, text)?)?;
+    put(members, alloc, "now", Value::from(standing.now))?;
+    Ok(())
 }
 
-fn snapshot_object(alloc: Global, now: Tick, parts: Parts) -> Result<Value, AllocError>
-    ensures { IfOk result (λ value. view value ≡ object (member (codes "format") (whole_data 1)
-        (member (codes "jobs") (view parts.jobs) (member (codes "machine") (view parts.machine)
-        (member (codes "now") (whole_data now) (member (codes "out") (view parts.out)
-        (member (codes "plans") (view parts.plans) (member (codes "stock") (view parts.stock)
-        (member (codes "waiting") (view parts.waiting) no_members))))))))) }
+/// Puts the modules that are out, the plans, the stock and the copies that wait into the members of a snapshot.
+fn put_last_members(
+    alloc: Global,
+    members: &mut Map<String, Value>,
+    machine: &Machine,
+    standing: &Standing,
+) -> Result<(), Memory>
+    requires { HasNames machine.now standing.now }
+    ensures { OnOk result (members_view members.new.entries
+        ≡ with_member (codes "waiting")
+        (list_data (wait_data standing.entry.now.jobs) standing.entry.now.waiting)
+        (with_member (codes "stock") (list_data stock_data standing.entry.now.stock)
+        (with_member (codes "plans")
+        (list_data (plan_data machine.now) standing.entry.now.plans)
+        (with_member (codes "out")
+        (texts (out_names standing.entry.now.outs 0 machine.now.modules))
+        (members_view members.old.entries))))) }
 {
-    let Parts {
-        jobs,
-        machine,
-        out,
-        plans,
-        stock,
-        waiting,
-    } = parts;
-    json!(in alloc; {
-        "format": 1u32,
-        "jobs": jobs,
-        "machine": machine,
-        "now": now,
-        "out": out,
-        "plans": plans,
-        "stock": stock,
-        "waiting": waiting,
-    })
+    machine_law(machine);
+    put(
+        members,
+        alloc,
+        "out",
+        outs_value(alloc, &machine.modules, standing.outs)?,
+    )?;
+    put(
+        members,
+        alloc,
+        "plans",
+        plans_value(alloc, machine, standing.plans.as_slice())?,
+    )?;
+    put(
+        members,
+        alloc,
+        "stock",
+        stock_value(alloc, standing.stock.as_slice())?,
+    )?;
+    let jobs = standing.jobs.as_slice();
+    put(
+        members,
+        alloc,
+        "waiting",
+        waiting_value(alloc, jobs, standing.waiting.as_slice())?,
+    )?;
+    Ok(())
 }
 
 /// The value that is written for the machine's text and the standing.
@@ -73,17 +110,10 @@ fn snapshot_value(
     ensures { IfOk result (λ value. view value
         ≡ snapshot_data text.now machine.now standing.entry.now) }
 {
-    machine_law(machine);
-    let jobs = standing.jobs.as_slice();
-    let parts = Parts {
-        jobs: jobs_value(alloc, machine, jobs)?,
-        machine: text_value(alloc, text)?,
-        out: outs_value(alloc, &machine.modules, standing.outs)?,
-        plans: plans_value(alloc, machine, standing.plans.as_slice())?,
-        stock: stock_value(alloc, standing.stock.as_slice())?,
-        waiting: waiting_value(alloc, jobs, standing.waiting.as_slice())?,
-    };
-    Ok(snapshot_object(alloc, standing.now, parts)?)
+    let mut members = Map::new(alloc);
+    put_first_members(alloc, &mut members, text, machine, standing)?;
+    put_last_members(alloc, &mut members, machine, standing)?;
+    Ok(Value::Object(members))
 }
 
 /// The machine and where its session stands, as one line without its end: a snapshot of both. Takes memory and time in proportion to

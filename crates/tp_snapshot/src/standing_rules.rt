@@ -9,6 +9,7 @@ use tp_jobs::{JobRow, Standing};
 fn job_law(job: &JobRow)
     ensures { IsName job.now.name }
 {
+    // For the prover: brings that the bytes of a name are a name.
     let _bytes = job.name.as_bytes();
 }
 
@@ -25,6 +26,7 @@ fn jobs_law(jobs: &[JobRow])
 pub(crate) fn standing_law(standing: &Standing)
     ensures { IsSpelled standing.entry.now }
 {
+    // For the prover: brings outs < 2^64.
     let _outs = standing.outs.0;
     jobs_law(standing.jobs.as_slice());
 }
