@@ -7,3 +7,4 @@ pub mod Stops
 pub mod WholeTurns
 pub mod ModuleChecks
 pub mod KeptPoints
+pub mod EventReadiness

@@ -1,7 +1,7 @@
 //! The phase of asks: the copies that wait are asked in their order, over any planner.
 
-ghost use Rattle.std.specs.Prelude.{◌≡◌, ℕ, false, Err, None, ◌+◌, ◌<◌, ◌≤◌, ◌++◌, length, IsSome, IsSomeAnd, IfOk, OnOk, IfErr};
-ghost use Rattle.tp_schedule.specs.PlannerAnswers.{CanAsk, StopsOnlyWhere};
+ghost use Rattle.std.specs.Prelude.{◌≡◌, ℕ, false, Err, None, ◌+◌, ◌<◌, ◌≤◌, ◌++◌, length, IsSome, IsSomeAnd, IfOk, OnOk};
+ghost use Rattle.tp_schedule.specs.PlannerAnswers.{CanAsk};
 ghost use Rattle.tp_schedule.specs.PlannerAnswers.Deed.{replied};
 ghost use Rattle.tp_schedule.specs.PlannerAnswers.Due.{asking};
 ghost use Rattle.tp_schedule.specs.Plans.{without};
@@ -15,6 +15,7 @@ ghost use Rattle.tp_event_rules.specs.LiveStates.{seen};
 ghost use Rattle.tp_event_rules.specs.Planners.{right_steps};
 ghost use Rattle.tp_event_rules.specs.Ready.{CanTakeEvents, KeepsLive, last_copy};
 ghost use Rattle.tp_event_records.specs.RecordNames.{points_of};
+ghost use Rattle.tp_replan.specs.KeptPlanner.{KeepsPlanner};
 ghost use Rattle.tp_event_turn.specs.KeptPoints.{IsLeft};
 ghost use Rattle.tp_event_turn.specs.Phases.{NotesAsks, NotesTurn};
 ghost use Rattle.tp_event_turn.specs.Stops.{NotesStop, StopsAtCopy};
@@ -79,10 +80,8 @@ fn ask_planner<P: Planner>(
         P.follows planner.new machine.now schedule.new.plans) }
     ensures stopped { result ≡ Err Stopped → P.rules.stop_steps planner.old machine.now
         schedule.old.plans (asking ask.entry.now) planner.new }
-    ensures stops_only { IfErr result (StopsOnlyWhere (P.stops planner.old) (P.stops planner.new)) }
-    ensures counted { P.stops planner.old ≤ P.stops planner.new }
-    ensures still_serves { P.serves planner.new machine.now }
-    ensures lasts { P.lasting planner.new ≡ P.lasting planner.old }
+    ensures keeps { KeepsPlanner P.serves P.stops P.lasting machine.now planner.old planner.new
+        result }
     ensures none { carry.new.left ≡ None }
 {
     match carry.left.take() {
@@ -123,10 +122,8 @@ fn ask_copy<P: Planner>(
     ensures stopped { result ≡ Err Stopped → (notes.new.items ≡ notes.old.items)
         × P.rules.stop_steps planner.old machine.now schedule.old.plans
         (asking ask.entry.now) planner.new }
-    ensures stops_only { IfErr result (StopsOnlyWhere (P.stops planner.old) (P.stops planner.new)) }
-    ensures counted { P.stops planner.old ≤ P.stops planner.new }
-    ensures still_serves { P.serves planner.new machine.now }
-    ensures lasts { P.lasting planner.new ≡ P.lasting planner.old }
+    ensures keeps { KeepsPlanner P.serves P.stops P.lasting machine.now planner.old planner.new
+        result }
 {
     let (before, reply) = ask_planner(carry, machine, schedule, planner, ask)?;
     if planner.has_moved() {
@@ -181,10 +178,8 @@ fn try_copy<P: Planner>(
     ensures stopped { result ≡ Err Stopped →
         StopsAtCopy (right_steps P.rules machine.now) machine.now copy
         (seen state.old) planner.old notes.old.items planner.new notes.new.items }
-    ensures stops_only { IfErr result (StopsOnlyWhere (P.stops planner.old) (P.stops planner.new)) }
-    ensures counted { P.stops planner.old ≤ P.stops planner.new }
-    ensures still_serves { P.serves planner.new machine.now }
-    ensures lasts { P.lasting planner.new ≡ P.lasting planner.old }
+    ensures keeps { KeepsPlanner P.serves P.stops P.lasting machine.now planner.old planner.new
+        result }
     ensures marked { state.new.lines.kept ≡ state.old.lines.kept }
     ensures refills { state.new.refills ≡ state.old.refills }
 {
@@ -227,10 +222,8 @@ pub(crate) fn ask_waiting<P: Planner>(
         (seen state.old) planner.old notes.old.items planner.new notes.new.items }
     ensures kept { OnOk result ((copies : ℕ) → CanTakeEvents machine.now copies (seen state.old)
         → CanTakeEvents machine.now copies (seen state.new)) }
-    ensures stops_only { IfErr result (StopsOnlyWhere (P.stops planner.old) (P.stops planner.new)) }
-    ensures counted { P.stops planner.old ≤ P.stops planner.new }
-    ensures still_serves { P.serves planner.new machine.now }
-    ensures lasts { P.lasting planner.new ≡ P.lasting planner.old }
+    ensures keeps { KeepsPlanner P.serves P.stops P.lasting machine.now planner.old planner.new
+        result }
     ensures marked { state.new.lines.kept ≡ state.old.lines.kept }
 {
     machine_law(machine);

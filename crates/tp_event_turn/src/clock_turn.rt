@@ -1,14 +1,15 @@
 //! The clock moves, and what that tells by names.
 
-ghost use Rattle.std.specs.Prelude.{◌≡◌, ℕ, Err, ◌+◌, ◌≤◌, ◌++◌, map, filter, All, OnOk, IfErr};
-ghost use Rattle.tp_schedule.specs.PlannerAnswers.{StopsOnlyWhere};
+ghost use Rattle.std.specs.Prelude.{◌≡◌, ℕ, Err, ◌+◌, ◌≤◌, ◌++◌, map, filter, All, OnOk};
 ghost use Rattle.tp_schedule.specs.declared.parts.Halt.TheVariants.{Stopped};
 ghost use Rattle.tp_script.specs.declared.event.Event.TheVariants.{Clock};
 ghost use Rattle.tp_event_rules.specs.Clock.{record_of};
 ghost use Rattle.tp_event_rules.specs.StateInvariants.{is_planned_among};
 ghost use Rattle.tp_event_rules.specs.LiveStates.{seen};
 ghost use Rattle.tp_event_rules.specs.Planners.{right_steps};
-ghost use Rattle.tp_event_rules.specs.Ready.{CanTakeEvents, KeepsStock, last_copy};
+ghost use Rattle.tp_event_rules.specs.Ready.{CanTakeEvents};
+ghost use Rattle.tp_replan.specs.KeptPlanner.{KeepsPlanner};
+ghost use Rattle.tp_event_turn.specs.EventReadiness.{IsReadyForEvent};
 ghost use Rattle.tp_event_turn.specs.Events.{NotesEvent};
 ghost use Rattle.tp_event_turn.specs.Stops.{NotesEventStop};
 ghost use Rattle.tp_event_turn.specs.ClockNames.{IsKnownTell};
@@ -37,9 +38,7 @@ pub(crate) fn move_clock<P: Planner>(
     to: Tick,
     notes: &mut Vec<Record>,
 ) -> Result<(), Halt>
-    requires served { P.serves planner.old machine.now }
-    requires can { CanTakeEvents machine.now last_copy (seen state.old) }
-    requires stocked { KeepsStock machine.now last_copy (seen state.old) }
+    requires ready { IsReadyForEvent P.serves machine.now (seen state.old) planner.old }
     ensures turn { OnOk result (
         NotesEvent (right_steps P.rules machine.now) machine.now (Clock to)
         (seen state.old) planner.old notes.old.items (seen state.new) planner.new notes.new.items) }
@@ -48,10 +47,8 @@ pub(crate) fn move_clock<P: Planner>(
         (seen state.old) planner.old notes.old.items planner.new notes.new.items }
     ensures kept { OnOk result ((copies : ℕ) → CanTakeEvents machine.now copies (seen state.old)
         → CanTakeEvents machine.now (copies + 1) (seen state.new)) }
-    ensures stops_only { IfErr result (StopsOnlyWhere (P.stops planner.old) (P.stops planner.new)) }
-    ensures counted { P.stops planner.old ≤ P.stops planner.new }
-    ensures still_serves { P.serves planner.new machine.now }
-    ensures lasts { P.lasting planner.new ≡ P.lasting planner.old }
+    ensures keeps { KeepsPlanner P.serves P.stops P.lasting machine.now planner.old planner.new
+        result }
     ensures marked { state.new.lines.kept ≡ state.old.lines.kept }
 {
     machine_law(machine);

@@ -59,6 +59,7 @@ pub fn take_event<P: Planner>(
             media,
             groups,
         } => {
+            // For the prover: brings length groups < 2^32.
             let _count = groups.len();
             let order = JobOrder {
                 name: *name,

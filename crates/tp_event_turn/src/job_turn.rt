@@ -1,12 +1,13 @@
 //! A job arrives.
 
-ghost use Rattle.std.specs.Prelude.{◌≡◌, ℕ, Err, ◌+◌, ◌^◌, ◌<◌, ◌≤◌, length, OnOk, IfErr};
-ghost use Rattle.tp_schedule.specs.PlannerAnswers.{StopsOnlyWhere};
+ghost use Rattle.std.specs.Prelude.{◌≡◌, ℕ, Err, ◌+◌, ◌^◌, ◌<◌, ◌≤◌, length, OnOk};
 ghost use Rattle.tp_schedule.specs.declared.parts.Halt.TheVariants.{Stopped};
 ghost use Rattle.tp_script.specs.declared.event.Event.TheVariants.{Job as NewJob};
 ghost use Rattle.tp_event_rules.specs.LiveStates.{seen};
 ghost use Rattle.tp_event_rules.specs.Planners.{right_steps};
-ghost use Rattle.tp_event_rules.specs.Ready.{CanTakeEvents, KeepsStock, last_copy};
+ghost use Rattle.tp_event_rules.specs.Ready.{CanTakeEvents};
+ghost use Rattle.tp_replan.specs.KeptPlanner.{KeepsPlanner};
+ghost use Rattle.tp_event_turn.specs.EventReadiness.{IsReadyForEvent};
 ghost use Rattle.tp_event_turn.specs.Events.{NotesEvent};
 ghost use Rattle.tp_event_turn.specs.Stops.{NotesEventStop};
 
@@ -30,9 +31,7 @@ pub(crate) fn take_job<P: Planner>(
     order: &JobOrder,
     notes: &mut Vec<Record>,
 ) -> Result<(), Halt>
-    requires served { P.serves planner.old machine.now }
-    requires can { CanTakeEvents machine.now last_copy (seen state.old) }
-    requires stocked { KeepsStock machine.now last_copy (seen state.old) }
+    requires ready { IsReadyForEvent P.serves machine.now (seen state.old) planner.old }
     requires groups { length order.now.groups.now < 2 ^ 32 }
     ensures turn { OnOk result (
         NotesEvent (right_steps P.rules machine.now) machine.now
@@ -44,10 +43,8 @@ pub(crate) fn take_job<P: Planner>(
         (seen state.old) planner.old notes.old.items planner.new notes.new.items }
     ensures kept { OnOk result ((copies : ℕ) → CanTakeEvents machine.now copies (seen state.old)
         → CanTakeEvents machine.now (copies + 1) (seen state.new)) }
-    ensures stops_only { IfErr result (StopsOnlyWhere (P.stops planner.old) (P.stops planner.new)) }
-    ensures counted { P.stops planner.old ≤ P.stops planner.new }
-    ensures still_serves { P.serves planner.new machine.now }
-    ensures lasts { P.lasting planner.new ≡ P.lasting planner.old }
+    ensures keeps { KeepsPlanner P.serves P.stops P.lasting machine.now planner.old planner.new
+        result }
     ensures marked { state.new.lines.kept ≡ state.old.lines.kept }
 {
     let JobOrder {

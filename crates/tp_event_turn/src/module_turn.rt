@@ -1,13 +1,14 @@
 //! Modules that go out and come back.
 
-ghost use Rattle.std.specs.Prelude.{◌≡◌, ℕ, Err, ◌+◌, ◌≤◌, IsTrue, OnOk, IfErr};
-ghost use Rattle.tp_schedule.specs.PlannerAnswers.{StopsOnlyWhere};
+ghost use Rattle.std.specs.Prelude.{◌≡◌, ℕ, Err, ◌+◌, ◌≤◌, IsTrue, OnOk};
 ghost use Rattle.tp_schedule.specs.declared.parts.Halt.TheVariants.{Stopped};
 ghost use Rattle.tp_event_rules.specs.Laws.{is_outage};
 ghost use Rattle.tp_event_rules.specs.LiveStates.{seen};
 ghost use Rattle.tp_event_rules.specs.Planners.{right_steps};
-ghost use Rattle.tp_event_rules.specs.Ready.{CanTakeEvents, KeepsStock, last_copy};
+ghost use Rattle.tp_event_rules.specs.Ready.{CanTakeEvents};
 ghost use Rattle.tp_event_turn.specs.ModuleChecks.{comes_back, is_jam};
+ghost use Rattle.tp_replan.specs.KeptPlanner.{KeepsPlanner};
+ghost use Rattle.tp_event_turn.specs.EventReadiness.{IsReadyForEvent};
 ghost use Rattle.tp_event_turn.specs.Events.{NotesEvent};
 ghost use Rattle.tp_event_turn.specs.Stops.{NotesEventStop};
 
@@ -33,9 +34,7 @@ pub(crate) fn take_out<P: Planner>(
     event: &Event,
     notes: &mut Vec<Record>,
 ) -> Result<(), Halt>
-    requires served { P.serves planner.old machine.now }
-    requires can { CanTakeEvents machine.now last_copy (seen state.old) }
-    requires stocked { KeepsStock machine.now last_copy (seen state.old) }
+    requires ready { IsReadyForEvent P.serves machine.now (seen state.old) planner.old }
     requires goes_out { IsTrue (is_outage event.now) }
     ensures turn { OnOk result (
         NotesEvent (right_steps P.rules machine.now) machine.now event.now
@@ -45,11 +44,9 @@ pub(crate) fn take_out<P: Planner>(
         (seen state.old) planner.old notes.old.items planner.new notes.new.items }
     ensures kept { OnOk result ((copies : ℕ) → CanTakeEvents machine.now copies (seen state.old)
         → CanTakeEvents machine.now (copies + 1) (seen state.new)) }
-    ensures stops_only { IfErr result (StopsOnlyWhere (P.stops planner.old) (P.stops planner.new)) }
-    ensures counted { P.stops planner.old ≤ P.stops planner.new }
-    ensures still_serves { P.serves planner.new machine.now }
+    ensures keeps { KeepsPlanner P.serves P.stops P.lasting machine.now planner.old planner.new
+        result }
     ensures marked { state.new.lines.kept ≡ state.old.lines.kept }
-    ensures lasts { P.lasting planner.new ≡ P.lasting planner.old }
 {
     let id = match check_module(machine, state.outs, event) {
         Err(fault) => return tell_refused(cause_of(fault), notes),
@@ -75,9 +72,7 @@ pub(crate) fn take_back<P: Planner>(
     event: &Event,
     notes: &mut Vec<Record>,
 ) -> Result<(), Halt>
-    requires served { P.serves planner.old machine.now }
-    requires can { CanTakeEvents machine.now last_copy (seen state.old) }
-    requires stocked { KeepsStock machine.now last_copy (seen state.old) }
+    requires ready { IsReadyForEvent P.serves machine.now (seen state.old) planner.old }
     requires comes_back { IsTrue (comes_back event.now) }
     ensures turn { OnOk result (
         NotesEvent (right_steps P.rules machine.now) machine.now event.now
@@ -87,10 +82,8 @@ pub(crate) fn take_back<P: Planner>(
         (seen state.old) planner.old notes.old.items planner.new notes.new.items }
     ensures kept { OnOk result ((copies : ℕ) → CanTakeEvents machine.now copies (seen state.old)
         → CanTakeEvents machine.now (copies + 1) (seen state.new)) }
-    ensures stops_only { IfErr result (StopsOnlyWhere (P.stops planner.old) (P.stops planner.new)) }
-    ensures counted { P.stops planner.old ≤ P.stops planner.new }
-    ensures still_serves { P.serves planner.new machine.now }
-    ensures lasts { P.lasting planner.new ≡ P.lasting planner.old }
+    ensures keeps { KeepsPlanner P.serves P.stops P.lasting machine.now planner.old planner.new
+        result }
     ensures marked { state.new.lines.kept ≡ state.old.lines.kept }
 {
     let id = match check_module(machine, state.outs, event) {

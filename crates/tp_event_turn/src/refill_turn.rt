@@ -1,16 +1,17 @@
 //! A feeder is refilled.
 
-ghost use Rattle.std.specs.Prelude.{◌≡◌, ℕ, Err, ◌+◌, ◌<◌, ◌≤◌, OnOk, IfErr, IfOk, IsSomeAnd};
+ghost use Rattle.std.specs.Prelude.{◌≡◌, ℕ, Err, ◌+◌, ◌<◌, ◌≤◌, OnOk, IfOk, IsSomeAnd};
 ghost use Rattle.tp_machine.specs.Limits.{most_locations};
-ghost use Rattle.tp_schedule.specs.PlannerAnswers.{StopsOnlyWhere};
 ghost use Rattle.tp_schedule.specs.declared.parts.Halt.TheVariants.{Stopped};
 ghost use Rattle.tp_script.specs.declared.event.Event.TheVariants.{Refill};
 ghost use Rattle.tp_stock.specs.Stock.{IsBounded, feeder_named};
 ghost use Rattle.tp_event_rules.specs.LiveStates.{seen};
 ghost use Rattle.tp_event_rules.specs.Planners.{right_steps};
-ghost use Rattle.tp_event_rules.specs.Ready.{CanTakeEvents, KeepsStock, last_copy};
+ghost use Rattle.tp_event_rules.specs.Ready.{CanTakeEvents};
 ghost use Rattle.tp_event_rules.specs.Refusals.{refill_refusal};
 ghost use Rattle.tp_event_turn.specs.ModuleChecks.{cause_in};
+ghost use Rattle.tp_replan.specs.KeptPlanner.{KeepsPlanner};
+ghost use Rattle.tp_event_turn.specs.EventReadiness.{IsReadyForEvent};
 ghost use Rattle.tp_event_turn.specs.Events.{NotesEvent};
 ghost use Rattle.tp_event_turn.specs.Stops.{NotesEventStop};
 
@@ -62,9 +63,7 @@ pub(crate) fn take_refill<P: Planner>(
     order: &RefillOrder,
     notes: &mut Vec<Record>,
 ) -> Result<(), Halt>
-    requires served { P.serves planner.old machine.now }
-    requires can { CanTakeEvents machine.now last_copy (seen state.old) }
-    requires stocked { KeepsStock machine.now last_copy (seen state.old) }
+    requires ready { IsReadyForEvent P.serves machine.now (seen state.old) planner.old }
     ensures turn { OnOk result (
         NotesEvent (right_steps P.rules machine.now) machine.now
         (Refill order.now.feeder order.now.count)
@@ -75,10 +74,8 @@ pub(crate) fn take_refill<P: Planner>(
         (seen state.old) planner.old notes.old.items planner.new notes.new.items }
     ensures kept { OnOk result ((copies : ℕ) → CanTakeEvents machine.now copies (seen state.old)
         → CanTakeEvents machine.now (copies + 1) (seen state.new)) }
-    ensures stops_only { IfErr result (StopsOnlyWhere (P.stops planner.old) (P.stops planner.new)) }
-    ensures counted { P.stops planner.old ≤ P.stops planner.new }
-    ensures still_serves { P.serves planner.new machine.now }
-    ensures lasts { P.lasting planner.new ≡ P.lasting planner.old }
+    ensures keeps { KeepsPlanner P.serves P.stops P.lasting machine.now planner.old planner.new
+        result }
     ensures marked { state.new.lines.kept ≡ state.old.lines.kept }
 {
     let loc = match check_refill(machine, state, order) {

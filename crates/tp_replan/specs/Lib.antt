@@ -3,3 +3,4 @@ pub mod Open
 pub mod Displacement
 pub mod LooseLoop
 pub mod Answered
+pub mod KeptPlanner

@@ -1,9 +1,9 @@
 //! The ask for the first loose copy.
 
 ghost use Rattle.std.specs.Prelude.{◌≡◌, ◌<◌, ◌≤◌, ◌++◌, length, slice_get, find, All, None};
-ghost use Rattle.std.specs.Prelude.{IfOk, IfErr, Err};
+ghost use Rattle.std.specs.Prelude.{IfOk, Err};
 ghost use Rattle.std.specs.Option.{MatchOption};
-ghost use Rattle.tp_schedule.specs.PlannerAnswers.{CanAsk, StopsOnlyWhere};
+ghost use Rattle.tp_schedule.specs.PlannerAnswers.{CanAsk};
 ghost use Rattle.tp_schedule.specs.PlannerAnswers.Deed.{replied};
 ghost use Rattle.tp_schedule.specs.PlannerAnswers.Due.{asking};
 ghost use Rattle.tp_schedule.specs.Plans.{IsTimedPlan};
@@ -13,6 +13,7 @@ ghost use Rattle.tp_event_rules.specs.AnswerRecords.{told_of_reply};
 ghost use Rattle.tp_event_rules.specs.LiveStates.{seen};
 ghost use Rattle.tp_event_rules.specs.Loops.{ask_in_flight, is_loose, next_ask, state_after};
 ghost use Rattle.tp_event_rules.specs.Planners.{right_steps};
+ghost use Rattle.tp_replan.specs.KeptPlanner.{KeepsPlanner};
 ghost use Rattle.tp_replan.specs.LooseLoop.{Stays};
 
 use crate::lost_copies::is_lost;
@@ -123,10 +124,8 @@ pub(crate) fn ask_planner<P: Planner>(
     ensures stopped { result ≡ Err Halt.Stopped → Stays notes.old.items notes.new.items
         (P.rules.stop_steps planner.old machine.now schedule.old.plans (asking ask.entry.now)
         planner.new) }
-    ensures stops_only { IfErr result (StopsOnlyWhere (P.stops planner.old) (P.stops planner.new)) }
-    ensures counted { P.stops planner.old ≤ P.stops planner.new }
-    ensures still_serves { P.serves planner.new machine.now }
-    ensures lasts { P.lasting planner.new ≡ P.lasting planner.old }
+    ensures keeps { KeepsPlanner P.serves P.stops P.lasting machine.now planner.old planner.new
+        result }
 {
     let Ok(before) = Times::of(alloc, schedule, Some(ask.sheet)) else {
         return Err(Halt::Memory);

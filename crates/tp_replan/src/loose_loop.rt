@@ -1,7 +1,7 @@
 //! The loop over loose copies, and the settling.
 
-ghost use Rattle.std.specs.Prelude.{◌≡◌, ◌≤◌, ◌++◌, Some, None, OnOk, IfErr, Err};
-ghost use Rattle.tp_schedule.specs.PlannerAnswers.{CanSettle, StopsOnlyWhere};
+ghost use Rattle.std.specs.Prelude.{◌≡◌, ◌≤◌, ◌++◌, Some, None, OnOk, Err};
+ghost use Rattle.tp_schedule.specs.PlannerAnswers.{CanSettle};
 ghost use Rattle.tp_schedule.specs.PlannerAnswers.Deed.{settled};
 ghost use Rattle.tp_schedule.specs.PlannerAnswers.Due.{asking, settling};
 ghost use Rattle.tp_event_rules.specs.AnswerRecords.{moves};
@@ -9,6 +9,7 @@ ghost use Rattle.tp_event_rules.specs.LiveStates.{seen};
 ghost use Rattle.tp_event_rules.specs.Loops.{next_ask};
 ghost use Rattle.tp_event_rules.specs.Planners.{right_steps};
 ghost use Rattle.tp_replan.specs.Answered.{IsAnswered, IsInLoop, NotesStop};
+ghost use Rattle.tp_replan.specs.KeptPlanner.{KeepsPlanner};
 ghost use Rattle.tp_replan.specs.LooseLoop.{CanLoop, Stays};
 
 use crate::early_release::release;
@@ -41,10 +42,8 @@ fn answer_loose<P: Planner>(
     ensures stopped { result ≡ Err Halt.Stopped → Stays notes.old.items notes.new.items
         (P.rules.stop_steps planner.old machine.now state.old.schedule.plans (asking ask.entry.now)
         planner.new) }
-    ensures stops_only { IfErr result (StopsOnlyWhere (P.stops planner.old) (P.stops planner.new)) }
-    ensures counted { P.stops planner.old ≤ P.stops planner.new }
-    ensures still_serves { P.serves planner.new machine.now }
-    ensures lasts { P.lasting planner.new ≡ P.lasting planner.old }
+    ensures keeps { KeepsPlanner P.serves P.stops P.lasting machine.now planner.old planner.new
+        result }
     ensures marked { state.new.lines.kept ≡ state.old.lines.kept }
 {
     machine_law(machine);
@@ -84,10 +83,8 @@ pub(crate) fn run_loop<P: Planner>(
     ensures stopped { result ≡ Err Halt.Stopped
         → NotesStop (right_steps P.rules machine.now) machine.now
         (seen state.old) planner.old notes.old.items planner.new notes.new.items }
-    ensures stops_only { IfErr result (StopsOnlyWhere (P.stops planner.old) (P.stops planner.new)) }
-    ensures counted { P.stops planner.old ≤ P.stops planner.new }
-    ensures still_serves { P.serves planner.new machine.now }
-    ensures lasts { P.lasting planner.new ≡ P.lasting planner.old }
+    ensures keeps { KeepsPlanner P.serves P.stops P.lasting machine.now planner.old planner.new
+        result }
     ensures marked { state.new.lines.kept ≡ state.old.lines.kept }
 {
     'loose: while let Some(ask) = next_ask(machine, state) {
@@ -117,10 +114,8 @@ pub(crate) fn settle<P: Planner>(
     ensures stopped { result ≡ Err Halt.Stopped → Stays notes.old.items notes.new.items
         (P.rules.stop_steps planner.old machine.now state.old.schedule.plans
         (settling state.old.moment) planner.new) }
-    ensures stops_only { IfErr result (StopsOnlyWhere (P.stops planner.old) (P.stops planner.new)) }
-    ensures counted { P.stops planner.old ≤ P.stops planner.new }
-    ensures still_serves { P.serves planner.new machine.now }
-    ensures lasts { P.lasting planner.new ≡ P.lasting planner.old }
+    ensures keeps { KeepsPlanner P.serves P.stops P.lasting machine.now planner.old planner.new
+        result }
     ensures marked { state.new.lines.kept ≡ state.old.lines.kept }
 {
     let Ok(before) = Times::of(alloc, &state.schedule, None) else {

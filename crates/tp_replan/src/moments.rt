@@ -85,9 +85,10 @@ pub(crate) fn is_entering(plan: &Plan, now: Tick) -> bool
 fn does_use(machine: &Machine, id: ModId, act: ActId) -> bool
     ensures { result ≡ does_use machine.now id.0 act }
 {
-    match machine.actions.as_slice().get(usize::from(act.0)) {
-        Some(_) => uses(machine, act, id),
-        None => false,
+    if u32::from(act.0) < machine.actions.len() {
+        uses(machine, act, id)
+    } else {
+        false
     }
 }
 

@@ -33,6 +33,7 @@ fn aim_at_purge(schedule: &mut Schedule, sheet: SheetId)
 {
     schedule.ordered();
     let at = place_of(schedule, sheet);
+    // For the prover: brings the plan at the place.
     let _plan = schedule.plan_at(at);
     purge_at(schedule, at);
 }

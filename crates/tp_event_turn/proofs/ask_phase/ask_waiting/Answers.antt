@@ -59,11 +59,11 @@ pub asks-preserved-then-not-planned : goal.asks-preserved-then-not-planned
 asks-preserved-then-not-planned g c = record {
   under_way = (refused g c).on;
   kept = c.in_ok-planned.ensures.left;
-  counted = omega (arith, c.asks.invariant.counted, c.in_ok-planned.ensures.counted);
-  serves = c.in_ok-planned.ensures.still_serves;
+  counted = omega (arith, c.asks.invariant.counted, c.in_ok-planned.ensures.keeps.counted);
+  serves = c.in_ok-planned.ensures.keeps.still_serves;
   marked = c.in_ok-planned.ensures.marked ∙ c.asks.invariant.marked;
   refills = c.in_ok-planned.ensures.refills ∙ c.asks.invariant.refills;
-  lasts = c.in_ok-planned.ensures.lasts ∙ c.asks.invariant.lasts;
+  lasts = c.in_ok-planned.ensures.keeps.lasts ∙ c.asks.invariant.lasts;
 }
 
 pub asks-smaller-then-not-planned : goal.asks-smaller-then-not-planned
@@ -73,11 +73,11 @@ pub asks-preserved : goal.asks-preserved
 asks-preserved g c = record {
   under_way = (planned g c).on;
   kept = c.in_ok-planned.ensures.left;
-  counted = omega (arith, c.asks.invariant.counted, c.in_ok-planned.ensures.counted);
-  serves = c.in_ok-planned.ensures.still_serves;
+  counted = omega (arith, c.asks.invariant.counted, c.in_ok-planned.ensures.keeps.counted);
+  serves = c.in_ok-planned.ensures.keeps.still_serves;
   marked = c.in_ok-planned.ensures.marked ∙ c.asks.invariant.marked;
   refills = c.in_ok-planned.ensures.refills ∙ c.asks.invariant.refills;
-  lasts = c.in_ok-planned.ensures.lasts ∙ c.asks.invariant.lasts;
+  lasts = c.in_ok-planned.ensures.keeps.lasts ∙ c.asks.invariant.lasts;
 }
 
 pub asks-smaller : goal.asks-smaller

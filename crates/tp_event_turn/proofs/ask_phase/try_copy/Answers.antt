@@ -49,10 +49,12 @@ returns-in-Never g c =
           c.in_ok-ask_copy.field-0 c.ask_copy.new.schedule.plans c.in_ok-ask_copy.ensures.answers.0 refused) w);
       left = c.in_ok-ask_copy.ensures.left;
       stopped = λ e. absurd (cc);
-      stops_only = tt;
-      counted = c.in_ok-ask_copy.ensures.counted;
-      still_serves = c.in_ok-ask_copy.ensures.still_serves;
-      lasts = c.in_ok-ask_copy.ensures.lasts;
+      keeps = record {
+        stops_only = tt;
+        counted = c.in_ok-ask_copy.ensures.keeps.counted;
+        still_serves = c.in_ok-ask_copy.ensures.keeps.still_serves;
+        lasts = c.in_ok-ask_copy.ensures.keeps.lasts;
+      };
       marked = refl;
       refills = refl;
     }

@@ -17,7 +17,7 @@ pub tell_moved_clock-requires : goal.tell_moved_clock-requires
 tell_moved_clock-requires g c = record {
   known = subst (All (IsKnownTell c.args.machine.now c.args.state.now.lines.jobs)) (sym (c.as_slice.ensures.value ∙ c.in-Ok.ensures.told))
       (known-tells c.args.machine.now c.machine_law.ensures c.args.state.now.lines.jobs c.args.state.now.moment c.args.to c.args.state.now.schedule.plans
-      c.requires.can.kept.plans.legal.timed c.requires.can.kept.lines.plans_known);
+      c.requires.ready.can.kept.plans.legal.timed c.requires.ready.can.kept.lines.plans_known);
 }
 
 pub ask_waiting-requires-clause-bounded : goal.ask_waiting-requires-clause-bounded
@@ -25,13 +25,13 @@ ask_waiting-requires-clause-bounded g c =
     let m = c.args.machine.now in
     let s = seen c.args.state.now in
     subst IsBounded (sym (refills-moved c.args.machine.now c.args.to (seen c.args.state.now) (sym c.in-Ok.ensures.refused) _ _ _ c.count_taken-taken.ensures c.forget-state.ensures c.in-Ok.ensures.plans))
-    (within-bounded (last_copy + 1) (live_refills m (clock_move m c.args.to s).state) (omega arith) (stock-moved m last_copy s (few-plans m last_copy s c.requires.can.kept) c.requires.stocked c.args.to).within)
+    (within-bounded (last_copy + 1) (live_refills m (clock_move m c.args.to s).state) (omega arith) (stock-moved m last_copy s (few-plans m last_copy s c.requires.ready.can.kept) c.requires.ready.stocked c.args.to).within)
 
 pub ask_waiting-requires-clause-can : goal.ask_waiting-requires-clause-can
 ask_waiting-requires-clause-can g c =
     let s = seen c.args.state.now in
     subst (KeepsLive c.args.machine.now (last_copy + 1)) (sym (moved-seen c.args.machine.now c.args.to s (sym c.in-Ok.ensures.refused) _ _ _ c.in-Ok.ensures.plans c.forget_lost.ensures (refills-moved c.args.machine.now c.args.to (seen c.args.state.now) (sym c.in-Ok.ensures.refused) _ _ _ c.count_taken-taken.ensures c.forget-state.ensures c.in-Ok.ensures.plans)))
-    (events-moved c.args.machine.now c.args.to s (sym c.in-Ok.ensures.refused) last_copy c.requires.can).kept
+    (events-moved c.args.machine.now c.args.to s (sym c.in-Ok.ensures.refused) last_copy c.requires.ready.can).kept
 
 pub returns-clause-kept : goal.returns-clause-kept
 returns-clause-kept g c =
@@ -43,7 +43,7 @@ returns-clause-kept g c =
     c.ask_waiting.ensures.kept
 
 pub forget-state-requires : goal.forget-state-requires
-forget-state-requires g c = record { bounded = within-bounded last_copy c.args.state.now.refills.0 (omega arith) c.requires.stocked.within }
+forget-state-requires g c = record { bounded = within-bounded last_copy c.args.state.now.refills.0 (omega arith) c.requires.ready.stocked.within }
 
 pub returns-clause-turn : goal.returns-clause-turn
 returns-clause-turn g c =

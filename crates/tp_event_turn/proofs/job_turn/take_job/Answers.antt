@@ -18,7 +18,7 @@ ask_waiting-requires-clause-can g c =
     let o = c.args.order.now in
     subst (KeepsLive c.args.machine.now (last_copy + 1)) (sym (seen-added c.args.machine.now s c.args.state.now.lines.kept o.name o.tray o.media o.groups.now c.add.new.self c.in-Ok.ensures.added))
     (events-job c.args.machine.now o.name o.tray o.media o.groups.now s
-    (accepted-by c.args.machine.now s.jobs (length s.waiting) o.name o.tray o.media o.groups.now c.in-Ok.ensures.refused) last_copy c.requires.can).kept
+    (accepted-by c.args.machine.now s.jobs (length s.waiting) o.name o.tray o.media o.groups.now c.in-Ok.ensures.refused) last_copy c.requires.ready.can).kept
 
 pub returns-in-Err-clause-turn : goal.returns-in-Err-clause-turn
 returns-in-Err-clause-turn g c =
@@ -42,4 +42,4 @@ returns-in-Ok-clause-kept g c =
     c.ask_waiting.ensures.kept
 
 pub ask_waiting-requires-clause-bounded : goal.ask_waiting-requires-clause-bounded
-ask_waiting-requires-clause-bounded g c = within-bounded last_copy c.args.state.now.refills.0 (omega arith) c.requires.stocked.within
+ask_waiting-requires-clause-bounded g c = within-bounded last_copy c.args.state.now.refills.0 (omega arith) c.requires.ready.stocked.within

@@ -15,7 +15,7 @@ pub ask_waiting-requires-clause-can : goal.ask_waiting-requires-clause-can
 ask_waiting-requires-clause-can g c =
     let s = seen c.args.state.now in
     subst (λ outs. KeepsLive c.args.machine.now (last_copy + 1) (record s { outs = outs })) (sym c.put_on-state.ensures)
-    (events-on c.args.machine.now c.in-Ok.id.0 s last_copy c.requires.can).kept
+    (events-on c.args.machine.now c.in-Ok.id.0 s last_copy c.requires.ready.can).kept
 
 pub returns-clause-kept : goal.returns-clause-kept
 returns-clause-kept g c =
@@ -44,4 +44,4 @@ returns-clause-stopped g c e =
     c.args.planner.now c.args.notes.now.items c.ask_waiting.new.planner c.ask_waiting.new.notes.items) c.put_on-state.ensures (c.ask_waiting.ensures.stopped e))
 
 pub ask_waiting-requires-clause-bounded : goal.ask_waiting-requires-clause-bounded
-ask_waiting-requires-clause-bounded g c = within-bounded last_copy c.args.state.now.refills.0 (omega arith) c.requires.stocked.within
+ask_waiting-requires-clause-bounded g c = within-bounded last_copy c.args.state.now.refills.0 (omega arith) c.requires.ready.stocked.within

@@ -11,7 +11,7 @@ use Rattle.tp_event_rules.proofs.StockKept.{within-bounded}
 use Rattle.tp_event_rules.proofs.StockTurns.{refills-goes}
 
 pub ask_waiting-requires-clause-can : goal.ask_waiting-requires-clause-can
-ask_waiting-requires-clause-can g c = (c.in_ok-go_out.ensures.kept last_copy c.requires.can.kept).kept
+ask_waiting-requires-clause-can g c = (c.in_ok-go_out.ensures.kept last_copy c.requires.ready.can.kept).kept
 
 pub returns-clause-kept : goal.returns-clause-kept
 returns-clause-kept g c =
@@ -41,4 +41,4 @@ pub ask_waiting-requires-clause-bounded : goal.ask_waiting-requires-clause-bound
 ask_waiting-requires-clause-bounded g c =
     let out = c.in_ok-go_out.ensures.out in
     let same = refills-goes (right_steps g.P.Planner.rules c.args.machine.now) c.args.machine.now (seen c.args.state.now) c.in-Ok.id.0 c.is_jam.result c.args.planner.now out.0 (seen c.go_out.new.state) c.go_out.new.planner out.2 in
-    subst IsBounded (sym same) (within-bounded last_copy c.args.state.now.refills.0 (omega arith) c.requires.stocked.within)
+    subst IsBounded (sym same) (within-bounded last_copy c.args.state.now.refills.0 (omega arith) c.requires.ready.stocked.within)

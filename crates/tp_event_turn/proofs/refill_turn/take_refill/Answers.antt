@@ -18,14 +18,14 @@ pub ask_waiting-requires-clause-can : goal.ask_waiting-requires-clause-can
 ask_waiting-requires-clause-can g c =
     let m = c.args.machine.now in
     let s = seen c.args.state.now in
-    live-refilled m (last_copy + 1) c.add-state.result.0 s (ready-more m last_copy (last_copy + 1) s (omega arith) c.requires.can.kept)
+    live-refilled m (last_copy + 1) c.add-state.result.0 s (ready-more m last_copy (last_copy + 1) s (omega arith) c.requires.ready.can.kept)
 
 pub ask_waiting-requires-clause-bounded : goal.ask_waiting-requires-clause-bounded
 ask_waiting-requires-clause-bounded g c =
     let m = c.args.machine.now in
     let s = seen c.args.state.now in
     let f = found-feeder (feeder_named m c.args.order.now.feeder) c.in-Ok.loc c.in-Ok.ensures.found in
-    let stock = stock-refill m last_copy s (few-plans m last_copy s c.requires.can.kept) c.requires.stocked c.args.order.now.feeder c.args.order.now.count f.0 (sym c.in-Ok.ensures.refused) f.1 in
+    let stock = stock-refill m last_copy s (few-plans m last_copy s c.requires.ready.can.kept) c.requires.ready.stocked c.args.order.now.feeder c.args.order.now.count f.0 (sym c.in-Ok.ensures.refused) f.1 in
     let same : more_at f.0.loc.0 c.args.order.now.count s.refills ≡ c.add-state.result.0 = ap (λ loc. more_at loc.0 c.args.order.now.count s.refills) f.2 ∙ sym c.add-state.ensures in
     subst IsBounded same (within-bounded (last_copy + 1) (more_at f.0.loc.0 c.args.order.now.count s.refills) (omega arith) stock.within)
 
@@ -58,7 +58,7 @@ returns-clause-stopped g c e =
     (sym c.in-Ok.ensures.refused) (record s { refills = c.add-state.result.0 }) c.ask_waiting.new.planner (f.0, f.1, refl, ap (λ (r : List ℤ). record s { refills = r }) same, refl) (c.ask_waiting.ensures.stopped e)
 
 pub check_refill-requires : goal.check_refill-requires
-check_refill-requires g c = record { bounded = within-bounded last_copy c.args.state.now.refills.0 (omega arith) c.requires.stocked.within }
+check_refill-requires g c = record { bounded = within-bounded last_copy c.args.state.now.refills.0 (omega arith) c.requires.ready.stocked.within }
 
 pub add-state-requires-clause-bounded : goal.add-state-requires-clause-bounded
-add-state-requires-clause-bounded g c = within-bounded last_copy c.args.state.now.refills.0 (omega arith) c.requires.stocked.within
+add-state-requires-clause-bounded g c = within-bounded last_copy c.args.state.now.refills.0 (omega arith) c.requires.ready.stocked.within

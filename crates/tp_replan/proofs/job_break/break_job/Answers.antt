@@ -8,7 +8,7 @@ use Rattle.tp_event_rules.specs.Labels.{job_name}
 use Rattle.tp_event_rules.specs.Lines.{is_of_job}
 use Rattle.tp_event_rules.specs.LiveStates.{seen}
 use Rattle.tp_event_rules.specs.States.{SessionState}
-use Rattle.tp_replan.specs.Meanings.{StandsBefore, meant, told_by_copy}
+use Rattle.tp_replan.specs.Meanings.{IsKnown, StandsBefore, meant, told_by_copy}
 use Rattle.tp_replan.proofs.BreakFacts.{sheets-in_order, sheets-known}
 use Rattle.tp_replan.proofs.BreakSteps.{break-cuts, break-leaves, break-room, break-tells, break-waits_none}
 use Rattle.tp_replan.proofs.OpenFacts.{one-each}
@@ -31,6 +31,14 @@ pub tell_by_copy-requires-clause-in_order : goal.tell_by_copy-requires-clause-in
 tell_by_copy-requires-clause-in_order c =
     subst (AllPairs StandsBefore) (sym (c.as_slice.ensures.value ∙ c.in_ok-copies.ensures.copies))
     (sheets-in_order (is_of_job c.args.job) c.args.state.now.lines.waiting c.kept.ensures.in_order)
+
+pub tell_by_copy-requires-clause-known : goal.tell_by_copy-requires-clause-known
+tell_by_copy-requires-clause-known c =
+    subst (λ js. All (IsKnown js) c.args.state.now.schedule.plans) (sym (ap (λ (b : Backlog). b.jobs) c.in_ok-copies.ensures.lines)) c.requires.can.known
+
+pub befall-requires-clause-known : goal.befall-requires-clause-known
+befall-requires-clause-known c =
+    subst (λ js. All (IsKnown js) c.args.state.now.schedule.plans) (sym (ap (λ (b : Backlog). b.jobs) c.in_ok-copies.ensures.lines)) c.requires.can.known
 
 pub befall-requires-clause-each : goal.befall-requires-clause-each
 befall-requires-clause-each c =

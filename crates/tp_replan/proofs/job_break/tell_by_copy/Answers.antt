@@ -1,5 +1,5 @@
 -- One more is told of.
-use Rattle.std.proofs.Common.{◌≡◌, ◌++◌, ◌∷◌, ◌∙◌, [], ap, sym, arith, drop}
+use Rattle.std.proofs.Common.{◌≡◌, ◌<◌, ◌++◌, ◌∷◌, ◌∙◌, [], ap, sym, subst, arith, drop, length}
 use Rattle.std.proofs.lemmas.List.{append-nil}
 use Rattle.std.proofs.lemmas.Option.{get_or_from_slice_get}
 use Rattle.tp_base.proofs.SliceFacts.{All-at, found}
@@ -39,6 +39,18 @@ overflow_add-at c =
     let there = plan-there c.args.copies.now c.args.state.now.schedule.plans c.loop-turn.next c.loop-turn.at c.if-is_copy_next.ensures c.loop-turn.invariant.next
     (omega (arith, c.loop-turn-test.true, c.loop-turn.invariant.turn, c.len.ensures.len)) in
     omega (arith, c.ordered.ensures.fits)
+
+pub bounds-copies-next : goal.bounds-copies-next
+bounds-copies-next c = copy-there c.args.copies.now (drop c.loop-turn.at c.args.state.now.schedule.plans) c.loop-turn.next c.if-is_copy_next.ensures
+
+pub tell_drop-requires : goal.tell_drop-requires
+tell_drop-requires c =
+    let copies = c.args.copies.now in
+    let n = c.loop-turn.next in
+    let there = found copies n (copy-there copies (drop c.loop-turn.at c.args.state.now.schedule.plans) n c.if-is_copy_next.ensures) in
+    let none : SheetId = record { job = 0; number = 0; copy = 0 } in
+    let known = λ (x : SheetId). x.job < length c.args.state.now.lines.jobs in
+    subst known (sym (get_or_from_slice_get copies n there.0 none there.1)) (All-at known copies n there.0 c.requires.of_jobs there.1)
 
 pub loop-turn-preserved : goal.loop-turn-preserved
 loop-turn-preserved c =

@@ -80,9 +80,11 @@ returns-in-Ok-not_planned g c =
           c.requires.is_due c.in_ok-ask_planner.ensures.answers c.in_ok-ask_planner.ensures.told
           (refused-leads m s ask c.in_ok-ask_planner.field-0 plans notes last t c.in-Never.is leads);
       stopped = λ e. absurd cc;
-      stops_only = tt;
-      counted = c.in_ok-ask_planner.ensures.counted;
-      still_serves = c.in_ok-ask_planner.ensures.still_serves;
-      lasts = c.in_ok-ask_planner.ensures.lasts;
+      keeps = record {
+        stops_only = tt;
+        counted = c.in_ok-ask_planner.ensures.keeps.counted;
+        still_serves = c.in_ok-ask_planner.ensures.keeps.still_serves;
+        lasts = c.in_ok-ask_planner.ensures.keeps.lasts;
+      };
       marked = c.in-Ok-not_planned.ensures.marked;
     }

@@ -32,10 +32,10 @@ loose-preserved g c =
       under_way = goes-on steps m g.P.Planner.rules.spent (λ p plans deed plans' p' does. does.0) (seen c.args.state.now) c.args.planner.now
           c.args.notes.now.items s c.loose.planner notes t planner last inv.under_way answered;
       few = omega (arith, inv.few, less.copies);
-      counted = omega (arith, inv.counted, c.in_ok-answer_loose.ensures.counted);
-      serves = c.in_ok-answer_loose.ensures.still_serves;
+      counted = omega (arith, inv.counted, c.in_ok-answer_loose.ensures.keeps.counted);
+      serves = c.in_ok-answer_loose.ensures.keeps.still_serves;
       marked = c.in_ok-answer_loose.ensures.marked ∙ inv.marked;
-      lasts = c.in_ok-answer_loose.ensures.lasts ∙ inv.lasts;
+      lasts = c.in_ok-answer_loose.ensures.keeps.lasts ∙ inv.lasts;
     }
 
 pub returns-in_err-answer_loose-clause-stopped : goal.returns-in_err-answer_loose-clause-stopped

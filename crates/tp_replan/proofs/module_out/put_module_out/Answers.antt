@@ -10,9 +10,21 @@ use Rattle.tp_event_rules.specs.Seen.{HasStarted}
 use Rattle.tp_event_rules.specs.States.{SessionState}
 use Rattle.tp_replan.specs.Meanings.{meant}
 use Rattle.tp_replan.specs.Open.{Fits}
-use Rattle.tp_replan.proofs.OpenFacts.{can-room, can-wait, cut-started}
+use Rattle.tp_replan.proofs.OpenFacts.{can-room, can-wait, cut-started, one-each}
 use Rattle.tp_replan.proofs.OutFacts.{outage-fits}
 use Rattle.tp_replan.proofs.module_out.put_module_out.Goals as goal
+
+pub tell_outage-requires-clause-each : goal.tell_outage-requires-clause-each
+tell_outage-requires-clause-each c =
+    one-each _ c.args.state.now.schedule.plans c.as_slice.result.now (ap (map meant) c.as_slice.ensures.value ∙ c.in_ok-fates.ensures)
+
+pub displaced_by-requires : goal.displaced_by-requires
+displaced_by-requires c =
+    one-each _ c.args.state.now.schedule.plans c.as_slice-2.result.now (ap (map meant) c.as_slice-2.ensures.value ∙ c.in_ok-fates.ensures)
+
+pub befall-requires-clause-each : goal.befall-requires-clause-each
+befall-requires-clause-each c =
+    one-each _ c.args.state.now.schedule.plans c.as_slice-3.result.now (ap (map meant) c.as_slice-3.ensures.value ∙ c.in_ok-fates.ensures)
 
 pub befall-requires-clause-started : goal.befall-requires-clause-started
 befall-requires-clause-started c =
