@@ -27,6 +27,7 @@ fn bytes_of(text: String) -> Vec<u8>
     ensures bytes { result.items ≡ string_bytes text }
     ensures utf8 { IsUtf8 (string_bytes text) }
 {
+    // For the prover: brings that the bytes of a text are UTF-8.
     let _shown = text.as_str();
     text.into_bytes()
 }
