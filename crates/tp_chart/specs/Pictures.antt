@@ -54,6 +54,11 @@ pub record Draws (bars : List Bar) (text : List ℕ) : Type 0 where
   pub ending : List ℕ
   pub drawn : text ≡ top ++ flat_map (bar_text (colour_of jobs)) bars ++ ending
 
+-- the new text is the old one with something behind it
+pub record GoesOn (old new : List ℕ) : Type 0 where
+  pub more : List ℕ
+  pub added : new ≡ old ++ more
+
 -- no byte of a name has a meaning in SVG: `<`, `>`, `&`, and both quotes
 abbrev pub is_plain : ℕ → Bool
 is_plain byte = not (byte == 60) && not (byte == 62) && not (byte == 38) && not (byte == 34) && not (byte == 39)

@@ -1,6 +1,6 @@
 //! A picture as a text.
-ghost use Rattle.std.specs.Prelude.{◌≡◌, IfOk};
-ghost use Rattle.tp_chart.specs.Pictures.{Draws};
+ghost use Rattle.std.specs.Prelude.{◌≡◌, [], IfOk, OnOk};
+ghost use Rattle.tp_chart.specs.Pictures.{Draws, GoesOn};
 
 use crate::bars::Bar;
 use crate::frame::{AxisFrame, HEAD, ROW, count_rows};
@@ -57,42 +57,112 @@ fn put_group(text: &mut String, frame: &AxisFrame) -> Result<(), AllocError> {
     write!(text, ",{ROW}) translate({back},0)\">\n")
 }
 
+/// How a picture is laid out: whether its rows are copies, where its parts stand, and the jobs that have colours.
+#[derive(Drop)]
+struct Layout {
+    by_copies: bool,
+    frame: AxisFrame,
+    jobs: Names,
+}
+
+fn layout_of(
+    alloc: Global,
+    by_copies: bool,
+    machine: &Machine,
+    scene: &Scene,
+    bars: &[Bar],
+) -> Result<Layout, Memory> {
+    let rows = count_rows(by_copies, machine, scene);
+    let frame = AxisFrame::of(scene, bars, rows, letters_of(by_copies, machine, scene));
+    let jobs = jobs_of(alloc, scene)?;
+    Ok(Layout {
+        by_copies,
+        frame,
+        jobs,
+    })
+}
+
 /// What stands before the bars.
 fn top_of(
     alloc: Global,
-    by_copies: bool,
-    frame: &AxisFrame,
+    layout: &Layout,
     machine: &Machine,
     scene: &Scene,
-    jobs: &Names,
 ) -> Result<String, AllocError> {
     let mut text = String::new(alloc);
-    put_top(&mut text, frame, scene, jobs)?;
-    put_rows(&mut text, by_copies, frame, machine, scene)?;
-    put_group(&mut text, frame)?;
+    put_top(&mut text, &layout.frame, scene, &layout.jobs)?;
+    put_rows(&mut text, layout.by_copies, &layout.frame, machine, scene)?;
+    put_group(&mut text, &layout.frame)?;
     Ok(text)
 }
 
-/// The end of the group of bars, and the lines that part them.
-fn edges_of(alloc: Global, frame: &AxisFrame, bars: &[Bar]) -> Result<String, AllocError> {
-    let mut text = String::new(alloc);
-    text.push_str("</g>\n")?;
-    put_edges(&mut text, frame, bars)?;
-    Ok(text)
-}
-
-/// What stands behind them.
+/// What stands behind the bars: the end of their group, the lines that part them, and the key.
 fn ending_of(
     alloc: Global,
-    by_copies: bool,
-    frame: &AxisFrame,
+    layout: &Layout,
     machine: &Machine,
     scene: &Scene,
-    jobs: &Names,
+    bars: &[Bar],
 ) -> Result<String, AllocError> {
     let mut text = String::new(alloc);
-    put_ending(&mut text, by_copies, frame, machine, scene, jobs)?;
+    text.push_str("</g>\n")?;
+    put_edges(&mut text, &layout.frame, bars)?;
+    put_ending(
+        &mut text,
+        layout.by_copies,
+        &layout.frame,
+        machine,
+        scene,
+        &layout.jobs,
+    )?;
     Ok(text)
+}
+
+fn add_top(
+    alloc: Global,
+    out: &mut Vec<u8>,
+    layout: &Layout,
+    machine: &Machine,
+    scene: &Scene,
+) -> Result<(), Memory>
+    ensures { OnOk result (GoesOn out.old.items out.new.items) }
+{
+    let top = top_of(alloc, layout, machine, scene)?;
+    out.extend_from_slice(top.as_bytes())?;
+    Ok(())
+}
+
+fn add_ending(
+    alloc: Global,
+    out: &mut Vec<u8>,
+    layout: &Layout,
+    machine: &Machine,
+    scene: &Scene,
+    bars: &[Bar],
+) -> Result<(), Memory>
+    ensures { OnOk result (GoesOn out.old.items out.new.items) }
+{
+    let ending = ending_of(alloc, layout, machine, scene, bars)?;
+    out.extend_from_slice(ending.as_bytes())?;
+    Ok(())
+}
+
+/// Writes the picture in this layout.
+fn add_picture(
+    alloc: Global,
+    out: &mut Vec<u8>,
+    layout: &Layout,
+    machine: &Machine,
+    scene: &Scene,
+    bars: &[Bar],
+) -> Result<(), Memory>
+    requires { out.old.items ≡ [] }
+    ensures { OnOk result (Draws bars.now out.new.items) }
+{
+    add_top(alloc, out, layout, machine, scene)?;
+    put_bars(out, &layout.jobs, bars)?;
+    add_ending(alloc, out, layout, machine, scene, bars)?;
+    Ok(())
 }
 
 /// The picture of a schedule with these bars, as SVG.
@@ -105,16 +175,8 @@ pub fn draw(
 ) -> Result<Vec<u8>, Memory>
     ensures { IfOk result (λ text. Draws bars.now text.items) }
 {
-    let jobs = jobs_of(alloc, scene)?;
-    let rows = count_rows(by_copies, machine, scene);
-    let frame = AxisFrame::of(scene, bars, rows, letters_of(by_copies, machine, scene));
-    let top = top_of(alloc, by_copies, &frame, machine, scene, &jobs)?;
-    let ending = ending_of(alloc, by_copies, &frame, machine, scene, &jobs)?;
-    let edges = edges_of(alloc, &frame, bars)?;
+    let layout = layout_of(alloc, by_copies, machine, scene, bars)?;
     let mut text = Vec::new(alloc);
-    text.extend_from_slice(top.as_bytes())?;
-    put_bars(&mut text, &jobs, bars)?;
-    text.extend_from_slice(edges.as_bytes())?;
-    text.extend_from_slice(ending.as_bytes())?;
+    add_picture(alloc, &mut text, &layout, machine, scene, bars)?;
     Ok(text)
 }
