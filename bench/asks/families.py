@@ -67,24 +67,25 @@ def rack(size, draws):
     """Unlike engines side by side."""
     machine = frame(8000, draws.between(20, 60), draws.one_of(LOOP_WAITS))
     add_feeder(machine, "f", 2, draws.between(4, 8))
-    add_engines(machine, draws.between(4, 12), (2, 8), draws)
+    add_engines(machine, draws.between(4, 12) if size < 128 else draws.between(2, 4), (2, 8), draws)
     return machine, orders(size, ONE_SIDED, draws, 2 if size < 200 else 0) + [ask(draws.one_of(BOTH_SIDES))]
 
 
-def duplex(window, wait, out_most=30, tinted=False):
+def duplex(draws, ticks, wait, window=16000, out_most=30, tinted=False):
     """A machine with one engine that sheets of two sides pass twice, and a loop in which they may wait up to `wait` ticks.
 
-    If it is `tinted`, the engine prints colour in a mode of its own, with a gap for the changeover.
+    The engine prints in `ticks`. If it is tinted, it prints colour in a mode of its own, with a gap for the changeover.
     """
     machine = MachineText(window)
     machine.tray("t")
     machine.purge_tray("p")
     add_feeder(machine, "f", 2, 6)
     for mode, ink in enumerate(INKS):
-        machine.action(f"ENG.{ink}", ("a", "b"), (5, 6), [past("re", 1, mode if tinted else 0)], [ink])
+        machine.action(f"ENG.{ink}", ("a", "b"), (ticks, ticks + 1), [past("re", 1, mode if tinted else 0)], [ink])
     machine.action("ENG.pass", ("a", "b"), (3, 4), [past("re", 1)])
-    machine.action("TURN.turn", ("b", "c"), (6, 10), [whole("rn")], flip=True)
-    machine.action("LOOP.back", ("c", "a"), (4, wait), [first("rl", 3), last("rm", 2)])
+    turn = draws.between(5, 9)
+    machine.action("TURN.turn", ("b", "c"), (turn, turn + 4), [whole("rn")], flip=True)
+    machine.action("LOOP.back", ("c", "a"), (draws.between(3, 6), wait), [first("rl", 3), last("rm", 2)])
     machine.action("OUT.flip", ("b", "d"), (3, 8), [whole("rd")], flip=True)
     machine.action("OUT.go", ("b", "d"), (2, 8), [whole("rd")])
     machine.action("OUT.out", ("d", "t"), (3, out_most), [last("rt", 1)])
@@ -95,33 +96,34 @@ def duplex(window, wait, out_most=30, tinted=False):
 
 def loop(size, draws):
     """One engine that sheets of two sides pass twice. Some windows are tight."""
-    # The last sheet of the orders ends some 6 ticks for each sheet after the first one's start.
-    window = 16 + 6 * size - size // 5 if size and draws.below(5) == 0 else 16000
-    machine = duplex(window, draws.one_of([60, 100, 200]))
+    ticks, is_tight = draws.between(4, 7), size and draws.below(5) == 0
+    # The last sheet of the orders ends some `ticks` + 1 for each sheet after the first one's start.
+    window = 16 + (ticks + 1) * size - size // 5 if is_tight else 16000
+    machine = duplex(draws, ticks, draws.one_of([60, 100, 200]), window)
     return machine, orders(size, ONE_SIDED, draws, 2) + [ask(draws.one_of(["MM:F", "CM:F", "CC:F", "MC:F"]))]
 
 
 def buffer(size, draws):
     """One engine, and buffers behind it in which sheets may wait for long."""
-    machine = MachineText(16000)
+    machine, ticks = MachineText(16000), draws.between(4, 9)
     machine.tray("t")
     machine.purge_tray("p")
-    add_feeder(machine, "f", 2, 8)
-    machine.action("ENG.print", ("a", "b"), (6, 8), [whole("re")], INKS)
-    for number in range(1, (draws.between(3, 10) if size < 64 else 2) + 1):
+    add_feeder(machine, "f", 2, draws.between(5, 10))
+    machine.action("ENG.print", ("a", "b"), (ticks, ticks + 2), [whole("re")], INKS)
+    for number in range(1, (draws.between(3, 10) if size < 32 else 2) + 1):
         module, place = f"BUF{number}", f"s{number}"
         machine.action(f"{module}.in{number}", ("b", place), (2, 6), [first("rin", 2)])
-        machine.action(f"{module}.wait{number}", (place, "c"), (3 + draws.below(3), 100 * draws.between(1, 8)), [whole(f"rs{number}")])
+        machine.action(f"{module}.wait{number}", (place, "c"), (draws.between(3, 6), 100 * draws.between(1, 8)), [whole(f"rs{number}")])
     machine.action("OUT.out", ("c", "t"), (3, 10), [first("rout", 2), last("rt", 1)])
-    machine.action("TURN.back", ("c", "a"), (5, 10), [first("rout", 2), last("rn", 2)], flip=True)
+    machine.action("TURN.back", ("c", "a"), (draws.between(4, 8), 10), [first("rout", 2), last("rn", 2)], flip=True)
     machine.action("DUMP.dump", ("c", "p"), (3, 10))
-    return machine, orders(size, ONE_SIDED, draws, 2) + [ask(draws.one_of(BOTH_SIDES if size < 64 else ONE_SIDED))]
+    return machine, orders(size, ONE_SIDED, draws, 2) + [ask(draws.one_of(BOTH_SIDES if size < 32 else ONE_SIDED))]
 
 
 def slack(size, draws):
     """Machines whose durations are wide open."""
     if draws.below(2):
-        machine = duplex(32768, 1000, draws.one_of([100, 400, 1000]))
+        machine = duplex(draws, draws.between(4, 7), 1000, 32768, draws.one_of([100, 400, 1000]))
         return machine, orders(size, ONE_SIDED, draws, 2) + [ask(draws.one_of(["MM:F", "CM:F", "-C:F"]))]
     machine = frame(32768, draws.one_of([400, 1000, 4000]), draws.one_of(LOOP_WAITS))
     add_feeder(machine, "f", 2, draws.one_of(LOOP_WAITS))
@@ -131,7 +133,7 @@ def slack(size, draws):
 
 def grid(size, draws):
     """Modules in rows and columns, with paths to the right, up and down; those of one column print."""
-    width, height = draws.between(4, 6), draws.between(4, 6)
+    width, height = draws.between(4, 5), draws.between(4, 6)
     machine = MachineText(3000)
     machine.feeder("f", "plain")
     machine.tray("t")
@@ -164,7 +166,7 @@ def add_cell(machine, cell, bounds):
 def tint(size, draws):
     """Engines that print mono and colour in different modes, with a gap for the changeover."""
     if draws.below(3):
-        machine = duplex(16000, draws.one_of([60, 100, 200]), tinted=True)
+        machine = duplex(draws, draws.between(4, 7), draws.one_of([60, 100, 200]), tinted=True)
         machine.gap("re", draws.between(2, 6))
         return machine, orders(size, ONE_SIDED, draws, 2) + [ask(draws.one_of(["MM:F", "CC:F", "CM:F", "MC:F"]))]
     machine = frame(16000, draws.between(20, 200), draws.one_of(LOOP_WAITS))
@@ -225,7 +227,7 @@ def flight(size, draws):
 
 def duplex_flight(size, draws):
     """A jam of the module that turns sheets over, while some wait in the loop."""
-    machine = duplex(16000, draws.one_of([40, 60, 100]))
+    machine = duplex(draws, draws.between(4, 7), draws.one_of([40, 60, 100]))
     lines = orders(size, ["M-:F", "M-:F", "M-:F", "MC:B"], draws)
     lines += jam("TURN", draws.between(16, 40), draws)
     return machine, lines + [ask(draws.one_of(["MM:F", "CM:F", "-C:F"]))]
@@ -242,13 +244,13 @@ FAMILIES = {"rack": rack, "loop": loop, "buffer": buffer, "slack": slack, "grid"
 # The sizes of the asks of the set, smallest first.
 SIZES = {
     "rack": (0, 8, 32, 64, 128, 255),
-    "loop": (0, 8, 16, 24, 28, 32),
-    "buffer": (4, 8, 12, 14, 16, 48),
-    "slack": (4, 8, 16, 24, 32, 48),
-    "grid": (0, 6, 10, 12, 14, 16),
-    "tint": (0, 16, 32, 48, 64, 96),
+    "loop": (0, 8, 16, 20, 24, 28),
+    "buffer": (4, 8, 10, 12, 14, 32),
+    "slack": (4, 8, 12, 16, 24, 32),
+    "grid": (0, 4, 6, 8, 10, 12),
+    "tint": (0, 16, 24, 32, 48, 64),
     "stock": (4, 8, 16, 32, 64, 128),
-    "flight": (8, 16, 24, 32, 48, 64),
+    "flight": (8, 16, 24, 32, 40, 48),
 }
 
 
