@@ -44,18 +44,23 @@ class AskState:
     def horizon(self):
         return self.now + self.machine.window
 
-    def best_known(self, work):
-        """The records of the earliest plan that the judge finds with so much work for each end, or None."""
-        best, limit = None, self.horizon()
+    def best_known(self, least, work):
+        """The records of a plan that the judge finds, or None.
+
+        It tries limits from `least` on, each with so much work, and doubles the distance until a plan is found.
+        """
+        ticks = 0
         while True:
+            limit = min(least + ticks, self.horizon())
             search = KeepingSearch(self.machine, self.plans, self.ask, work)
             try:
-                end = search.find(limit)
+                if search.find(limit) is not None:
+                    return self.records_of(search.schedule)
             except Undecided:
-                end = None
-            if end is None:
-                return best and self.records_of(best)
-            best, limit = search.schedule, end - 1
+                pass
+            if limit == self.horizon():
+                return None
+            ticks = 2 * ticks + 1
 
     def records_of(self, after):
         """The records of a plan and its moves, as a log has them."""

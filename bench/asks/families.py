@@ -244,10 +244,10 @@ FAMILIES = {"rack": rack, "loop": loop, "buffer": buffer, "slack": slack, "grid"
 # The sizes of the asks of the set, smallest first.
 SIZES = {
     "rack": (0, 8, 32, 64, 128, 255),
-    "loop": (0, 8, 16, 20, 24, 28),
-    "buffer": (4, 8, 10, 12, 14, 32),
-    "slack": (4, 8, 12, 16, 24, 32),
-    "grid": (0, 4, 6, 8, 10, 12),
+    "loop": (0, 8, 16, 20, 24, 48),
+    "buffer": (4, 8, 10, 12, 14, 20),
+    "slack": (4, 8, 12, 16, 24, 40),
+    "grid": (0, 4, 6, 8, 10, 14),
     "tint": (0, 16, 24, 32, 48, 64),
     "stock": (4, 8, 16, 32, 64, 128),
     "flight": (8, 16, 24, 32, 40, 48),
