@@ -34,6 +34,11 @@ class Printer:
             sys.exit(self.process.wait())
         return line.rstrip("\n")
 
+    def close(self):
+        """Ends the script, and waits for the program's end. Its status is the answer."""
+        self.process.stdin.close()
+        return self.process.wait()
+
 
 def main():
     if len(sys.argv) != 3:
@@ -45,6 +50,8 @@ def main():
             began = time.monotonic()
             lines = printer.answer(event)
             print(f"{event}: {len(lines) - 1} records, {1000 * (time.monotonic() - began):.1f} ms")
+    sys.exit(printer.close())
 
 
-main()
+if __name__ == "__main__":
+    main()

@@ -1,13 +1,26 @@
 """Texts that nobody would write: sound ones changed at random, and a megabyte of one byte."""
+import os
 import random
 import re
+import sys
+
+sys.path.append(os.path.join(os.path.dirname(os.path.dirname(os.path.abspath(__file__))), "judge"))
+
+from judge import Judge
+from log import Fault
+from machine import MachineFault, read_machine
 
 from trying import DONE, FARM, MACHINE, RACK, REJECTED, SHELF, SNAPSHOT, TOO_LONG, read, side_by_side
 
 MEGABYTE = 1_048_576
 
+# The longest line of a log that `check` reads.
+LONGEST_LINE = 4_194_304
+
 # How many changed texts of each kind are tried.
 TEXTS = 20_000
+
+NOT_TOML = "printer: machine: not TOML"
 
 NUMBERS = [b"0", b"-1", b"1", b"255", b"256", b"4096", b"4097", b"65536", b"2147483647", b"2147483648", b"4294967295",
            b"4294967296", b"9223372036854775807", b"9223372036854775808", b"100000000000000000000", b"1.0", b"-0"]
@@ -84,6 +97,47 @@ def answers_each_line(text, run):
     return None if run.status == DONE and told == wanted else f"status {run.status}, {told} events of {wanted}"
 
 
+def is_too_long(log):
+    return any(len(line) > LONGEST_LINE for line in log.split(b"\n"))
+
+
+def agrees_with_judge(machine_text):
+    """`check` accepts exactly the logs that the judge finds lawful with their trees, and prints the judge's counts of them."""
+    machine = read_machine(machine_text)
+
+    def fault(log, run):
+        if is_too_long(log):
+            return None if run.status == TOO_LONG else f"status {run.status} of a line that is too long"
+        judge = Judge(machine, needs_trees=True)
+        try:
+            judge.judge(log)
+        except Fault as why:
+            return None if run.status == REJECTED else f"status {run.status}, and the judge finds {why}"
+        counts = " ".join(f"{judge.counts[kind]} {kind}s" for kind in ("event", "plan", "none", "budget"))
+        told = run.log.decode().strip()
+        return None if run.status == DONE and told == f"accepted {counts}" else f"status {run.status}: {told}, and the judge accepts {counts}"
+
+    return fault
+
+
+def tells_the_rule(text, run):
+    """The run names the first broken rule of a machine text, as the judge does. Where only one of the two takes the text as TOML, either may be right."""
+    if len(text) > MEGABYTE:
+        return None if run.status == TOO_LONG else f"status {run.status} of a text that is too long"
+    if run.status not in (DONE, MACHINE):
+        return f"status {run.status}"
+    told = run.said.decode().strip()
+    try:
+        read_machine(text)
+        wanted = ""
+    except RecursionError:  # Python's reader of TOML goes no deeper.
+        return None
+    except MachineFault as fault:
+        wanted = f"printer: machine: {fault}"
+    is_open = (told == NOT_TOML) != (wanted == NOT_TOML)
+    return None if told == wanted or is_open else f"{told or 'no fault'}, and the judge says {wanted or 'no fault'}"
+
+
 class Kind:
     """A kind of text: sound ones, how the printer is run on one, and what is wrong with a run."""
 
@@ -111,11 +165,11 @@ def kinds(program):
     first_lines = b"".join(read("scripts/duo.txt").splitlines(True)[:3])
     snapshots = [program.snapshot_of(duo, script), program.snapshot_of(duo, first_lines)]
     return [
-        Kind("machine texts", machines, in_a_file(program, "run", script), ends_by(DONE, MACHINE, TOO_LONG)),
+        Kind("machine texts", machines, in_a_file(program, "run", script), tells_the_rule),
         Kind("rack texts", racks, in_a_file(program, "compose"), ends_by(DONE, RACK, TOO_LONG)),
         Kind("lists of farms", farms, in_a_file(program, "farm", script), ends_by(DONE, FARM, SHELF, TOO_LONG)),
         Kind("scripts", scripts, lambda at, text: program.run(["run", duo], text), answers_each_line),
-        Kind("logs", logs, lambda at, text: program.run(["check", duo], text), ends_by(DONE, REJECTED, TOO_LONG)),
+        Kind("logs", logs, lambda at, text: program.run(["check", duo], text), agrees_with_judge(read(duo))),
         Kind("snapshots", snapshots, in_a_file(program, "resume", later), ends_by(DONE, SNAPSHOT, TOO_LONG)),
     ]
 

@@ -51,7 +51,7 @@ def worked(pid):
 
 
 def resident(pid):
-    """The kilobytes of memory that a process touches."""
+    """The kilobytes of memory that a process touches, or 0 if the system does not tell them."""
     with open(f"/proc/{pid}/status") as file:
         for line in file:
             if line.startswith("VmRSS:"):
@@ -60,19 +60,24 @@ def resident(pid):
 
 
 class Watched:
-    """A run whose events are counted as they are answered."""
+    """A run whose events are counted as they are answered. Its input stays open until the last one is, so that it lives while it is read."""
 
     def __init__(self, program, words, events):
         self.process = subprocess.Popen([program.path, *words], stdin=subprocess.PIPE, stdout=subprocess.PIPE, cwd=TOP)
-        self.events = events
+        self.events, self.is_over = events, threading.Event()
 
     def feed(self):
-        for event in self.events:
-            self.process.stdin.write(event.encode() + b"\n")
-        self.process.stdin.close()
+        try:
+            for event in self.events:
+                self.process.stdin.write(event.encode() + b"\n")
+            self.process.stdin.flush()
+            self.is_over.wait()
+            self.process.stdin.close()
+        except BrokenPipeError:
+            pass  # The run has ended too soon, and its status says why.
 
-    def each(self, step):
-        """For each so many events: their number, the seconds of work on the last ones, and the memory in kilobytes."""
+    def each(self, step, number):
+        """For each `step` events of `number`: how many, the seconds of work on the last ones, and the memory in kilobytes."""
         feeder = threading.Thread(target=self.feed)
         feeder.start()
         answered, last = 0, 0.0
@@ -83,8 +88,21 @@ class Watched:
                     now = worked(self.process.pid)
                     yield answered, now - last, resident(self.process.pid)
                     last = now
+                if answered == number:
+                    self.is_over.set()
+        self.is_over.set()
         feeder.join()
         self.status = self.process.wait()
+
+
+def wrong_end(run, rows, wanted):
+    """What is wrong with a run that was watched: its status, or its readings of seconds and kilobytes."""
+    wrongs = [f"status {run.status}"] if run.status else []
+    if len(rows) != wanted:
+        wrongs.append(f"{len(rows)} readings of {wanted}")
+    if not all(kilobytes for _, kilobytes in rows):
+        wrongs.append("a reading of memory is 0")
+    return wrongs
 
 
 def load(program, count):
@@ -94,20 +112,25 @@ def load(program, count):
     events = list(random_events(number, 1))
     run = Watched(program, ["run", "machines/rack.toml"], events)
     rows = []
-    for answered, seconds, kilobytes in run.each(step):
+    for answered, seconds, kilobytes in run.each(step, number):
         rows.append((seconds, kilobytes))
         print(f"    {answered} events: {1000 * seconds / step:.3f} ms an event, {kilobytes} kB", flush=True)
-    wrongs = [f"status {run.status}"] if run.status else []
-    quarter = len(rows) // 4
+    wrongs = wrong_end(run, rows, number // step) or growth(rows, events, step)
+    count.tell("a hundred thousand events", wrongs, number)
+
+
+def growth(rows, events, step):
+    """What grows that may not, of rows with the seconds and the kilobytes of each `step` events."""
+    wrongs, quarter = [], len(rows) // 4
     early, late = (sum(seconds for seconds, _ in part) for part in (rows[quarter : 2 * quarter], rows[-quarter:]))
     if late > 1.5 * early:
         wrongs.append(f"the time of an event grows by {late / early:.2f}")
     jobs = sum(event.startswith("job ") for event in events[quarter * step :])
-    grown = 1024 * (rows[-1][1] - rows[quarter][1]) / jobs
+    grown = 1024 * (rows[-1][1] - rows[quarter - 1][1]) / jobs
     print(f"    {grown:.0f} bytes a job", flush=True)
     if grown > JOB_BYTES:
         wrongs.append("memory grows")
-    count.tell("a hundred thousand events", wrongs, number)
+    return wrongs
 
 
 def checked(program, count):
@@ -131,10 +154,10 @@ def lines(program, count):
     """As many lines as a script may have: the second half takes as much work as the first one, but for a half."""
     number = 1_000_000
     run = Watched(program, ["run", "machines/duo.toml"], small_jobs(number))
-    halves = [(seconds, kilobytes) for _, seconds, kilobytes in run.each(number // 2)]
-    wrongs = [f"status {run.status}"] if run.status else []
+    halves = [(seconds, kilobytes) for _, seconds, kilobytes in run.each(number // 2, number)]
+    wrongs = wrong_end(run, halves, 2)
     for seconds, kilobytes in halves:
         print(f"    {number // 2} lines: {seconds:.1f} s, {kilobytes} kB", flush=True)
-    if len(halves) != 2 or halves[1][0] > 1.5 * halves[0][0]:
+    if not wrongs and halves[1][0] > 1.5 * halves[0][0]:
         wrongs.append("the second half takes more work")
     count.tell("a million lines", wrongs, number)

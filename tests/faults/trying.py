@@ -25,10 +25,11 @@ def read(name):
 
 @dataclass
 class Run:
-    """How a run ended. The status is below 0 where a signal ended it, and None where it took too long."""
+    """How a run ended, and the texts of its two outputs. The status is below 0 if a signal ended it, and None if it took too long."""
 
     status: int | None
     log: bytes
+    said: bytes = b""
 
 
 class Program:
@@ -51,14 +52,14 @@ class Program:
                 [self.path, *words],
                 input=script,
                 stdout=subprocess.PIPE,
-                stderr=subprocess.DEVNULL,
+                stderr=subprocess.PIPE,
                 env={**os.environ, **(env or {})},
                 cwd=TOP,
                 timeout=PATIENCE,
             )
         except subprocess.TimeoutExpired as late:
-            return Run(None, late.stdout or b"")
-        return Run(done.returncode, done.stdout)
+            return Run(None, late.stdout or b"", late.stderr or b"")
+        return Run(done.returncode, done.stdout, done.stderr)
 
     def log_of(self, machine, script):
         """The log with bounds of a script."""
@@ -86,6 +87,6 @@ class Count:
 
 
 def side_by_side(work, items):
-    """What `work` gives for each item, on all processors; it gives None where all is right."""
+    """What `work` returns for each item, on all processors, without the Nones, by which it says that all is right."""
     with ThreadPoolExecutor(os.cpu_count()) as pool:
         return [wrong for wrong in pool.map(work, items) if wrong is not None]
