@@ -1,0 +1,76 @@
+"""Reads the parts of a picture: an SVG of `chart`, parsed as XML."""
+import re
+import xml.etree.ElementTree as ElementTree
+
+from told import Bar
+
+SVG = "{http://www.w3.org/2000/svg}"
+GROUP = re.compile(r"translate\((\d+),(\d+)\) scale\((\d+)\.(\d{6}),(\d+)\) translate\((-?\d+),0\)")
+SHAPE = re.compile(r"M(-?\d+) (\d+)\.15H(-?\d+)V(\d+)\.85H(-?\d+)z")
+MARK = re.compile(r"M(\d+) (\d+)l6 6-6 6-6-6z")
+LINE = re.compile(r"M(\d+) \d+V\d+")
+BAR_CLASS = re.compile(r"([jp])([0-7])")
+
+
+class Picture:
+    """A picture, with the place of its rows and ticks. Raises ValueError or ParseError if it has another form."""
+
+    def __init__(self, data):
+        self.top = ElementTree.fromstring(data)
+        (self.group,) = self.top.findall(f"{SVG}g")
+        left, above, whole, part, height, back = map(int, matched(GROUP, self.group.get("transform")).groups())
+        self.left, self.above, self.height, self.first = left, above, height, -back
+        self.scale = whole * 1_000_000 + part
+
+    def x(self, tick):
+        """Where a tick is, in pixels."""
+        return self.left + (tick - self.first) * self.scale // 1_000_000
+
+    def row(self, y):
+        return (y - self.above) // self.height
+
+    def moment(self):
+        return int(matched(re.compile(r"The schedule at (\d+)"), self.top.find(f"{SVG}title").text)[1])
+
+    def labels(self):
+        """The names of the rows."""
+        return [it.text for it in self.top.findall(f"{SVG}text") if it.get("class") == "ink" and it.get("text-anchor") == "end"]
+
+    def bars(self):
+        found = []
+        for path in self.group:
+            begin, row, end, row_again, begin_again = map(int, matched(SHAPE, path.get("d")).groups())
+            if (row, begin) != (row_again, begin_again):
+                raise ValueError(f"no bar: {path.get('d')}")
+            if path.get("class") == "cross":
+                if (row, begin, end) != found[-1][:3]:
+                    raise ValueError(f"a cross beside its bar: {path.get('d')}")
+                found[-1] = found[-1]._replace(is_crossed=True)
+                continue
+            kind, colour = matched(BAR_CLASS, path.get("class")).groups()
+            found.append(Bar(row, begin, end, path.find(f"{SVG}title").text, int(colour), kind == "j", False))
+        return found
+
+    def deliveries(self):
+        """The row, the place in pixels and the title of each mark."""
+        for path in self.top.findall(f"{SVG}path"):
+            if path.get("class").endswith(" edge"):
+                x, y = map(int, matched(MARK, path.get("d")).groups())
+                yield self.row(y), x, path.find(f"{SVG}title").text
+
+    def moment_lines(self):
+        """The places of the lines at the moment, in pixels: one at most."""
+        return [int(matched(LINE, it.get("d"))[1]) for it in self.top.findall(f"{SVG}path") if it.get("class") == "now"]
+
+    def bands(self):
+        """The row, the place and the width of each grey band, in pixels."""
+        for rect in self.top.findall(f"{SVG}rect"):
+            if rect.get("class") == "out" and int(rect.get("y")) >= self.above:
+                yield self.row(int(rect.get("y"))), int(rect.get("x")), int(rect.get("width"))
+
+
+def matched(form, text):
+    found = form.fullmatch(text)
+    if not found:
+        raise ValueError(f"{text!r} is not of the form of a picture")
+    return found
