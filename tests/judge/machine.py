@@ -128,6 +128,8 @@ def read_machine(data):
         table = tomllib.loads(data.decode("utf-8"))
     except (UnicodeDecodeError, tomllib.TOMLDecodeError) as fault:
         raise MachineFault("not TOML") from fault
+    if not fits(table):
+        raise MachineFault("not TOML")
     for number, rule in enumerate(RULES, 1):
         try:
             kept = rule(table)
@@ -136,6 +138,14 @@ def read_machine(data):
         if not kept:
             raise MachineFault(f"rule {number}")
     return machine_of(table)
+
+
+def fits(value):
+    """Whether each whole number has 64 bits, as TOML has them. Python reads longer ones too."""
+    if isinstance(value, int):
+        return -(2**63) <= value < 2**63
+    inner = value.values() if isinstance(value, dict) else value if isinstance(value, list) else ()
+    return all(map(fits, inner))
 
 
 def machine_of(table):
