@@ -162,12 +162,28 @@ class Maker:
             self.action("dump", "a", self.place("p1"), self.draw.randrange(1, 4))
             self.table["purge"].append("p1")
 
+    def crowd(self):
+        """A short way to each of two trays, and a window in which more sheets fit than may be live."""
+        self.table |= {"window": 2_000, "budget": 20_000}
+        self.feeder("f1", "plain")
+        self.table.pop("stock", None)
+        for number in (1, 2):
+            self.action(f"go{number}", "f1", f"t{number}", self.draw.randrange(1, 4))
+            self.table["trays"].append(f"t{number}")
+
 
 def make_machine(draw):
     """The text of a small machine."""
     maker = Maker(draw)
     draw.choice([maker.engines, maker.engines, maker.grid, maker.buffers, maker.twins])()
     maker.gaps()
+    return text_of(maker.table)
+
+
+def make_crowded_machine(draw):
+    """The text of a machine on which as many sheets as allowed are soon live."""
+    maker = Maker(draw)
+    maker.crowd()
     return text_of(maker.table)
 
 
@@ -227,8 +243,18 @@ class Story:
             Event("clock", ("1000000001",)), Event("refill", (next(iter(self.machine.feeders)), "1000000")),
         ])
 
+    def rush(self):
+        """A job of many sheets, and a jam in a module that leads to a tray while some of them are on their way."""
+        tray, medium, *wants = self.draw.choice([(tray, medium, spec) for spec, tray, medium in self.ways])
+        self.jobs += 1
+        self.now += self.draw.randrange(2, 16)
+        last = self.draw.choice([it.module for it in self.machine.actions if it.target == tray])
+        self.out.append(last)
+        job = Event("job", (f"j{self.jobs}", tray, medium, f"{self.draw.randrange(3, 9)}*{wants[0]}"))
+        return [job, Event("clock", (str(self.now),)), Event("jam", (last,))]
+
     def events(self, count):
-        made = [self.job()]
+        made = self.rush() if self.ways and self.draw.random() < 0.2 else [self.job()]
         while len(made) < count:
             kinds = [self.job, self.clock, self.outage, self.back, self.refill, self.refused]
             rest = 1 + 6 * len(self.out)
@@ -236,6 +262,21 @@ class Story:
         return made
 
 
+    def crowded_events(self):
+        """Jobs of more sheets than may be live, and moves of the clock that make room for some."""
+        draw = self.draw
+        first, second = draw.sample(self.machine.trays, 2)
+        ticks = sorted(draw.sample(range(1, 16), 2))
+        jobs = [("j1", first, f"{draw.randrange(200, 254)}*--:F"), ("j2", second, "60*--:F"), ("j3", first, "4*--:F")]
+        made = [Event("job", (name, tray, "plain", group)) for name, tray, group in jobs]
+        return [*made[:2], Event("clock", (str(ticks[0]),)), made[2], Event("clock", (str(ticks[1]),))]
+
+
 def make_events(draw, machine):
     """The events of a script for a machine."""
     return Story(draw, machine).events(draw.randrange(5, 18))
+
+
+def make_crowded_events(draw, machine):
+    """The events of a script for a crowded machine."""
+    return Story(draw, machine).crowded_events()

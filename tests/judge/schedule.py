@@ -152,16 +152,25 @@ def flaw_of_schedule(machine, plans):
 
 
 class Network:
-    """Points with a least and a greatest tick, and edges that ask that a point be so far behind another."""
+    """Points with a least and a greatest tick, and edges that ask that a point be so far behind another.
+
+    The rank of a point is a guess at its tick. It decides in which order points are raised, and no time.
+    """
 
     def __init__(self):
-        self.low, self.cap, self.edges = [], [], []
+        self.low, self.cap, self.edges, self.rank = [], [], [], []
 
-    def point(self, low, cap):
+    def point(self, low, cap, rank=0):
         self.low.append(low)
         self.cap.append(cap)
         self.edges.append([])
+        self.rank.append(rank)
         return len(self.low) - 1
+
+    def pop_point(self):
+        """Takes the last point away again."""
+        for column in (self.low, self.cap, self.edges, self.rank):
+            column.pop()
 
     def edge(self, before, after, weight):
         self.edges[before].append((after, weight))
@@ -187,11 +196,24 @@ class Network:
         return True
 
     def least(self):
-        """The least times, or None if there are none."""
+        """The least times, or None if there are none. Points are raised by their rank, so that most are raised once."""
         times = list(self.low)
         if any(low > cap for low, cap in zip(self.low, self.cap)):
             return None
-        return times if self.raise_from(times, range(len(times))) else None
+        waiting = sorted((rank, point) for point, rank in enumerate(self.rank))
+        waits = [True] * len(times)
+        while waiting:
+            _, point = heapq.heappop(waiting)
+            waits[point] = False
+            for after, weight in self.edges[point]:
+                if times[point] + weight > times[after]:
+                    times[after] = times[point] + weight
+                    if times[after] > self.cap[after]:
+                        return None
+                    if not waits[after]:
+                        waits[after] = True
+                        heapq.heappush(waiting, (self.rank[after], after))
+        return times
 
 
 class Constraints:
@@ -220,7 +242,7 @@ class Constraints:
         for at, tick in enumerate(plan.points):
             low = self.now + self.machine.lead + 1 if at < count and plan.copy != self.asked else 0
             bounds = (tick, tick) if plan.is_fixed(at) else (low, self.now + self.machine.window)
-            self.places[plan.copy, at] = self.net.point(*bounds)
+            self.places[plan.copy, at] = self.net.point(*bounds, rank=tick)
         for at, action in enumerate(plan.actions):
             start, end = self.places[plan.copy, at], self.places[plan.copy, at + 1]
             self.net.edge(start, end, action.least)

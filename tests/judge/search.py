@@ -93,7 +93,7 @@ class Trial:
         """Loads the other plans, and a point for the end of the asked one by a limit, with its place in its line."""
         self.constraints = Constraints(self.machine, self.plans, self.ask.now, self.ask.copy)
         self.net, self.orders = self.constraints.net, self.constraints.orders
-        self.end = self.net.point(0, limit)
+        self.end = self.net.point(0, limit, rank=limit)
         for plan in self.constraints.lines.get(self.ask.goal, []) if self.ask.goal is not None else []:
             if plan.copy < self.ask.copy:
                 self.net.edge(self.constraints.end_of(plan), self.end, 1)
@@ -111,8 +111,7 @@ class Trial:
         if bounds[0] <= bounds[1]:
             found = self.with_edges(edges, times, further)
         del self.constraints.places[self.ask.copy, at]
-        for column in (self.net.low, self.net.cap, self.net.edges):
-            column.pop()
+        self.net.pop_point()
         return found
 
     def with_edges(self, edges, times, further):
