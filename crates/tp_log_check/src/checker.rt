@@ -268,15 +268,7 @@ impl LogChecker {
         let Some(pending) = &mut self.pending else {
             return Ok(false);
         };
-        match told {
-            LogLine::Event(_) => Ok(false),
-            LogLine::Note(rec) => {
-                pending.add_record(rec)?;
-                Ok(true)
-            }
-            LogLine::Room(row) => pending.add_row(row),
-            LogLine::Node(node) => pending.add_node(node),
-        }
+        pending.add(told)
     }
 
     /// Takes a line in the grammar.

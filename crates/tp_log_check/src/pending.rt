@@ -1,12 +1,12 @@
 //! The event that is under way, with its records and trees so far.
 
-ghost use Rattle.std.specs.Prelude.{List, ◌≡◌, ◌+◌, ◌<◌, ◌≤◌, ◌++◌, ◌∷◌, [], OnOk, OnErr, IfOk, vec_len, vec_capacity};
+ghost use Rattle.std.specs.Prelude.{List, ◌≡◌, ◌+◌, ◌<◌, ◌≤◌, ◌++◌, ◌∷◌, [], false, OnOk, OnErr, IfOk, vec_len, vec_capacity};
 ghost use Rattle.std.specs.Bool.{MatchBool};
 ghost use Rattle.tp_bounds.specs.Lines.{IsNode, IsRow};
 ghost use Rattle.tp_log_check.specs.Gathered.{IsPending, IsSame, items_of, lines_of};
 ghost use Rattle.tp_log.specs.GatheredItems.{closed, has_lines};
 ghost use Rattle.tp_log.specs.Grammar.{IsRecord};
-ghost use Rattle.tp_log.specs.LogLines.{AreInOrder};
+ghost use Rattle.tp_log.specs.LogLines.{AreInOrder, IsLogLine, is_event};
 ghost use Rattle.tp_bounds.specs.declared.tree.BoundTree.{BoundTree};
 ghost use Rattle.tp_log.specs.declared.item.Item.{Item};
 ghost use Rattle.tp_log.specs.declared.item.Item.TheVariants.{Event as EventItem};
@@ -18,7 +18,7 @@ use std::alloc::Global;
 use std::mem;
 use tp_base::Memory;
 use tp_bounds::{BoundTree, Node, Nodes, TreeRow, TreeRows};
-use tp_log::Item;
+use tp_log::{Item, LogLine};
 use tp_schedule::Record;
 use tp_script::Event;
 
@@ -109,7 +109,7 @@ impl Pending {
     }
 
     /// Adds a record. After `Memory` all is as before.
-    pub fn add_record(&mut self, told: Record) -> Result<(), Memory>
+    fn add_record(&mut self, told: Record) -> Result<(), Memory>
         requires pending { IsPending self.old }
         requires line { IsRecord told }
         ensures pending { OnOk result (IsPending self.new) }
@@ -127,7 +127,7 @@ impl Pending {
     }
 
     /// Adds a room row, or answers false where none may stand here. After `Memory` all is as before.
-    pub fn add_row(&mut self, row: TreeRow) -> Result<bool, Memory>
+    fn add_row(&mut self, row: TreeRow) -> Result<bool, Memory>
         requires pending { IsPending self.old }
         requires line { IsRow row }
         ensures pending { IfOk result (λ stands. IsPending self.new) }
@@ -149,7 +149,7 @@ impl Pending {
     }
 
     /// Adds a node, or answers false where none may stand here. After `Memory` all is as before.
-    pub fn add_node(&mut self, node: Node) -> Result<bool, Memory>
+    fn add_node(&mut self, node: Node) -> Result<bool, Memory>
         requires pending { IsPending self.old }
         requires line { IsNode node }
         ensures pending { IfOk result (λ stands. IsPending self.new) }
@@ -168,6 +168,32 @@ impl Pending {
         self.tree.nodes.push(node)?;
         self.next = NextEntry::behind_node();
         Ok(true)
+    }
+
+    /// Adds a line that is no event's, or returns false if it may not stand here. After `Memory` all is as before.
+    pub fn add(&mut self, told: LogLine) -> Result<bool, Memory>
+        requires pending { IsPending self.old }
+        requires line { IsLogLine told }
+        requires plain { is_event told ≡ false }
+        ensures pending { IfOk result (λ stands. IsPending self.new) }
+        ensures lines { IfOk result (λ stands. MatchBool stands
+            (lines_of self.new ≡ lines_of self.old ++ told ∷ [])
+            (AreInOrder (lines_of self.old ++ told ∷ []) → ⊥)) }
+        ensures off { IfOk result (λ stands.
+            MatchBool stands (Unit {0}) (IsSame self.old self.new)) }
+        ensures event { self.new.event ≡ self.old.event }
+        ensures line { self.new.line ≡ self.old.line }
+        ensures memory { OnErr result (IsSame self.old self.new) }
+    {
+        match told {
+            LogLine::Event(_) => Ok(false),
+            LogLine::Note(rec) => {
+                self.add_record(rec)?;
+                Ok(true)
+            }
+            LogLine::Room(row) => self.add_row(row),
+            LogLine::Node(node) => self.add_node(node),
+        }
     }
 
     /// Ends the tree, if there is one, so that the items have all lines, and tells whether there was one. After `Memory` all is as

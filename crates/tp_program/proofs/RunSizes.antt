@@ -87,21 +87,21 @@ entries-count (e ∷ log) =
 -- a script has no more events than lines
 few-events : (lines : List (List ℕ)) → length (filter_map line_event lines) ≤ length lines
 few-events [] = omega arith
-few-events (l ∷ lines) = go (line_event l) refl
+few-events (l ∷ lines) = go (line_event l) refl (few-events lines)
   where
-    go : (o : Option Event) → line_event l ≡ o → length (filter_map line_event (l ∷ lines)) ≤ length (l ∷ lines)
-    go None e = rw e (omega (arith, few-events lines))
-    go (Some event) e = rw e (omega (arith, few-events lines))
+    go : (o : Option Event) → line_event l ≡ o → length (filter_map line_event lines) ≤ length lines → length (filter_map line_event (l ∷ lines)) ≤ length (l ∷ lines)
+    go None e few = rw e (omega (arith, few))
+    go (Some event) e few = rw e (omega (arith, few))
 
 -- ---- lengths
 
 body-shorter : (line : List ℕ) → length (body_of line) ≤ length line
 body-shorter [] = omega arith
-body-shorter (byte ∷ line) = go (byte == 10)
+body-shorter (byte ∷ line) = go (byte == 10) (body-shorter line)
   where
-    go : (b : Bool) → length (cond b [] (byte ∷ body_of line)) ≤ length (byte ∷ line)
-    go true = omega arith
-    go false = omega (arith, body-shorter line)
+    go : (b : Bool) → length (body_of line) ≤ length line → length (cond b [] (byte ∷ body_of line)) ≤ length (byte ∷ line)
+    go true shorter = omega arith
+    go false shorter = omega (arith, shorter)
 
 abbrev IsShort : List ℕ → Type 0
 IsShort line = length line ≤ 4194304

@@ -15,7 +15,7 @@ returns-clause-right c =
     (λ found. IsNone found → TellWholeTurn c.args.machine.now (seen c.args.state.now) c.args.pending.now.event c.args.pending.now.items.items)
     c.judge-found.result c.judge-found.ensures.accepted
     (λ found accepted none. (
-        after,
-        subst (λ is. IsAccepted c.args.machine.now (seen c.args.state.now) (entry c.args.pending.now.event is) after) items
-        (subst (λ s. IsAccepted c.args.machine.now s (entry c.args.pending.now.event c.new-told.result.items) after) c.remember.ensures.stays (accepted none)),
+      after,
+      subst (λ is. IsAccepted c.args.machine.now (seen c.args.state.now) (entry c.args.pending.now.event is) after) items
+          (subst (λ s. IsAccepted c.args.machine.now s (entry c.args.pending.now.event c.new-told.result.items) after) c.remember.ensures.stays (accepted none)),
     ))
