@@ -3,3 +3,4 @@ pub mod Closes
 pub mod RoomRows
 pub mod TreeProgress
 pub mod Ranges
+pub mod TreeLimits

@@ -1,10 +1,9 @@
 //! A walk through the branches below one, each of which is tried on a board and taken back.
-ghost use Rattle.std.specs.Prelude.{◌≡◌, ◌+◌, ◌<◌, ◌≤◌, [], ◌∷◌, Some, None, IfErr, OnOk, pos};
+ghost use Rattle.std.specs.Prelude.{◌≡◌, ◌+◌, ◌<◌, ◌≤◌, [], ◌∷◌, Some, None, IfErr, OnOk};
 ghost use Rattle.tp_constraints.specs.Suffixes.{Suffix};
 ghost use Rattle.tp_placing.specs.Boards.{suffix_of};
-ghost use Rattle.tp_routes.specs.Tables.{AreRooms, IsMadeFor};
 ghost use Rattle.tp_schedule.specs.Plans.{AreNamed};
-ghost use Rattle.tp_bound_make.specs.Closes.{IsLimit};
+ghost use Rattle.tp_bound_make.specs.TreeLimits.{FitsAsk};
 ghost use Rattle.tp_bound_make.specs.TreeProgress.{Carries, HasMarks, IsBack, IsEarly, IsEarlyEnd, IsOpen, IsSet, Shows, below, branch_by, kids_of};
 
 use crate::branch_ways::{enter, ways};
@@ -25,9 +24,7 @@ pub(crate) fn show_below<N: Network>(
     requires set { IsSet N.reading scene.machine.now scene.ask.now
         board.old }
     requires named { AreNamed board.old.plans }
-    requires limit { IsLimit scene.machine.now scene.ask.now (pos scene.limit) }
-    requires made { IsMadeFor scene.rooms.now scene.machine.now }
-    requires rooms { AreRooms scene.machine.now scene.ask.now scene.rooms.now.sums }
+    requires fits { FitsAsk scene.machine.now scene.ask.now scene.rooms.now scene.limit }
     requires carries { (x : Suffix) × Carries N.reading scene.machine.now
         scene.ask.now board.old branch x }
     requires open { IsOpen scene.machine.now scene.ask.now branch }

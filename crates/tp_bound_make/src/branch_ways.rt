@@ -1,10 +1,9 @@
 //! The ways that go on from a branch, each gone by its number.
-ghost use Rattle.std.specs.Prelude.{◌≡◌, ◌<◌, ◌≤◌, suc, None, IfErr, IfOk, Some, pos};
+ghost use Rattle.std.specs.Prelude.{◌≡◌, ◌<◌, ◌≤◌, suc, None, IfErr, IfOk, Some};
 ghost use Rattle.tp_constraints.specs.Suffixes.{Suffix};
 ghost use Rattle.tp_placing.specs.Boards.{suffix_of};
-ghost use Rattle.tp_routes.specs.Tables.{AreRooms, IsMadeFor};
 ghost use Rattle.tp_schedule.specs.Plans.{AreNamed};
-ghost use Rattle.tp_bound_make.specs.Closes.{IsLimit};
+ghost use Rattle.tp_bound_make.specs.TreeLimits.{FitsAsk};
 ghost use Rattle.tp_bound_make.specs.TreeProgress.{Carries, IsEarly, IsEarlyEnd, IsEntered, IsSet, IsSince, branch_by, hold_of, left_of, ways_of};
 
 use crate::branch_steps::{enter_place, enter_stop};
@@ -51,9 +50,7 @@ fn enter_child<N: Network>(
     requires set { IsSet N.reading scene.machine.now scene.ask.now
         board.old }
     requires named { AreNamed board.old.plans }
-    requires limit { IsLimit scene.machine.now scene.ask.now (pos scene.limit) }
-    requires made { IsMadeFor scene.rooms.now scene.machine.now }
-    requires rooms { AreRooms scene.machine.now scene.ask.now scene.rooms.now.sums }
+    requires fits { FitsAsk scene.machine.now scene.ask.now scene.rooms.now scene.limit }
     requires carries { (x : Suffix) × Carries N.reading scene.machine.now
         scene.ask.now board.old branch x }
     requires placed { hold_of scene.machine.now branch ≡ None }
@@ -94,9 +91,7 @@ pub(crate) fn enter<N: Network>(
     requires set { IsSet N.reading scene.machine.now scene.ask.now
         board.old }
     requires named { AreNamed board.old.plans }
-    requires limit { IsLimit scene.machine.now scene.ask.now (pos scene.limit) }
-    requires made { IsMadeFor scene.rooms.now scene.machine.now }
-    requires rooms { AreRooms scene.machine.now scene.ask.now scene.rooms.now.sums }
+    requires fits { FitsAsk scene.machine.now scene.ask.now scene.rooms.now scene.limit }
     requires carries { (x : Suffix) × Carries N.reading scene.machine.now
         scene.ask.now board.old branch x }
     requires ends { IsEarly scene.machine.now scene.ask.now scene.limit board.old }

@@ -1,14 +1,13 @@
 //! Goals and actions that are opened on a board.
-ghost use Rattle.std.specs.Prelude.{◌≡◌, ◌+◌, ◌<◌, ◌≤◌, [], ◌∷◌, ◌++◌, None, Option, IfErr, IfOk, IfSome, Some, length, pos, if◌then◌else◌};
+ghost use Rattle.std.specs.Prelude.{◌≡◌, ◌+◌, ◌<◌, ◌≤◌, [], ◌∷◌, ◌++◌, None, Option, IfErr, IfOk, IfSome, Some, length, if◌then◌else◌};
 ghost use Rattle.tp_constraints.specs.Suffixes.{Suffix};
 ghost use Rattle.tp_machine.specs.ModuleUse.{action_at};
 ghost use Rattle.tp_placing.specs.Boards.{suffix_of};
-ghost use Rattle.tp_routes.specs.Tables.{AreRooms, IsMadeFor};
 ghost use Rattle.tp_schedule.specs.Answers.{kept_of};
 ghost use Rattle.tp_schedule.specs.Limits.{most_acts};
 ghost use Rattle.tp_schedule.specs.Plans.{AreNamed};
 ghost use Rattle.tp_schedule.specs.Routes.{IsGoalState, is_act_allowed};
-ghost use Rattle.tp_bound_make.specs.Closes.{IsLimit};
+ghost use Rattle.tp_bound_make.specs.TreeLimits.{FitsAsk};
 ghost use Rattle.tp_bound_make.specs.TreeProgress.{Carries, IsEarlyEnd, IsEntered, IsGoalEntered, IsSet, IsSince, branch_by, hold_of};
 ghost use Rattle.tp_bound_laws.specs.Places.{action_due, state_before};
 
@@ -49,9 +48,7 @@ pub(crate) fn enter_act<N: Network>(
     requires set { IsSet N.reading scene.machine.now scene.ask.now
         board.old }
     requires named { AreNamed board.old.plans }
-    requires limit { IsLimit scene.machine.now scene.ask.now (pos scene.limit) }
-    requires made { IsMadeFor scene.rooms.now scene.machine.now }
-    requires rooms { AreRooms scene.machine.now scene.ask.now scene.rooms.now.sums }
+    requires fits { FitsAsk scene.machine.now scene.ask.now scene.rooms.now scene.limit }
     requires carries { (x : Suffix) × Carries N.reading scene.machine.now
         scene.ask.now board.old branch x }
     requires placed { hold_of scene.machine.now branch ≡ None }
@@ -104,9 +101,7 @@ pub(crate) fn enter_goal<N: Network>(
     requires set { IsSet N.reading scene.machine.now scene.ask.now
         board.old }
     requires named { AreNamed board.old.plans }
-    requires limit { IsLimit scene.machine.now scene.ask.now (pos scene.limit) }
-    requires made { IsMadeFor scene.rooms.now scene.machine.now }
-    requires rooms { AreRooms scene.machine.now scene.ask.now scene.rooms.now.sums }
+    requires fits { FitsAsk scene.machine.now scene.ask.now scene.rooms.now scene.limit }
     requires closed { suffix_of board.old ≡ None }
     requires known { goal.loc.0 < length scene.machine.now.locations }
     requires is_goal { IsGoalState scene.machine.now scene.ask.now.want scene.ask.now.goal goal }

@@ -2,12 +2,12 @@
 ghost use Rattle.std.specs.Prelude.{◌≡◌, ◌<◌, ◌≤◌, [], ◌∷◌, All, None, IfErr, IfOk, OnOk, length, map, pos};
 ghost use Rattle.tp_machine.specs.declared.parts.State.{State};
 ghost use Rattle.tp_placing.specs.Boards.{suffix_of};
-ghost use Rattle.tp_routes.specs.Tables.{AreRooms, IsKnownOrigin, IsMadeFor};
+ghost use Rattle.tp_routes.specs.Tables.{IsKnownOrigin};
 ghost use Rattle.tp_schedule.specs.Answers.{kept_of};
 ghost use Rattle.tp_schedule.specs.Limits.{most_acts};
 ghost use Rattle.tp_schedule.specs.Plans.{AreNamed};
 ghost use Rattle.tp_schedule.specs.Routes.{IsGoalState};
-ghost use Rattle.tp_bound_make.specs.Closes.{IsLimit};
+ghost use Rattle.tp_bound_make.specs.TreeLimits.{FitsAsk};
 ghost use Rattle.tp_bound_make.specs.TreeProgress.{HasMarks, IsBack, IsEarlyEnd, IsSet, Shows};
 ghost use Rattle.tp_bound_laws.specs.Places.Due.{goal};
 ghost use Rattle.tp_bound_laws.specs.Short.{HasFewHops};
@@ -36,9 +36,7 @@ fn show_goal<N: Network>(
     requires set { IsSet N.reading scene.machine.now scene.ask.now
         board.old }
     requires named { AreNamed board.old.plans }
-    requires limit { IsLimit scene.machine.now scene.ask.now (pos scene.limit) }
-    requires made { IsMadeFor scene.rooms.now scene.machine.now }
-    requires rooms { AreRooms scene.machine.now scene.ask.now scene.rooms.now.sums }
+    requires fits { FitsAsk scene.machine.now scene.ask.now scene.rooms.now scene.limit }
     requires closed { suffix_of board.old ≡ None }
     requires known { state.loc.0 < length scene.machine.now.locations }
     requires is_goal { IsGoalState scene.machine.now scene.ask.now.want scene.ask.now.goal state }
@@ -73,9 +71,7 @@ fn show_goals<N: Network>(
     requires set { IsSet N.reading scene.machine.now scene.ask.now
         board.old }
     requires named { AreNamed board.old.plans }
-    requires limit { IsLimit scene.machine.now scene.ask.now (pos scene.limit) }
-    requires made { IsMadeFor scene.rooms.now scene.machine.now }
-    requires rooms { AreRooms scene.machine.now scene.ask.now scene.rooms.now.sums }
+    requires fits { FitsAsk scene.machine.now scene.ask.now scene.rooms.now scene.limit }
     requires closed { suffix_of board.old ≡ None }
     requires known { All (λ (s : State). s.loc.0 < length scene.machine.now.locations)
         states.now }
@@ -114,9 +110,7 @@ pub fn show_limit<N: Network>(
 ) -> Result<BoundTree, NotShown>
     requires set { IsSet N.reading machine.now ask.now board.old }
     requires named { AreNamed board.old.plans }
-    requires limit { IsLimit machine.now ask.now (pos limit) }
-    requires made { IsMadeFor rooms.now machine.now }
-    requires rooms { AreRooms machine.now ask.now rooms.now.sums }
+    requires fits { FitsAsk machine.now ask.now rooms.now limit }
     requires origin { IsKnownOrigin machine.now ask.now.origin }
     requires closed { suffix_of board.old ≡ None }
     requires kept { kept_of ask.now ≤ most_acts }

@@ -153,6 +153,15 @@ fn range_at<N: Network>(
     }
 }
 
+/// The place half the way from one place to a later one, rounded up.
+fn middle_above(low: u32, high: u32) -> u32
+    requires { low < high }
+    ensures above { low < result }
+    ensures within { result ≤ high }
+{
+    high - (high - low) / 2
+}
+
 /// The most places from the first that is due on for which one close serves, as far as halving
 /// finds them. None where the board knows nothing against the first.
 fn widest<N: Network>(
@@ -187,7 +196,7 @@ fn widest<N: Network>(
     let mut range = first;
     let mut most = places.last;
     'wider: while range.hi < most {
-        let middle = most - (most - range.hi) / 2;
+        let middle = middle_above(range.hi, most);
         match range_at(board, scene, branch, places, middle) {
             Ok(Some(wider)) => range = wider,
             Ok(None) => most = middle - 1,

@@ -74,7 +74,7 @@ show_below-shown-requires g t c κs within =
     let marks = marks-below g.N.Network.reading machine ask c.mark-mark.new.self c.enter.new.board _ _ at.spare e.smaller since in
     let ends = early-on machine c.args.board.now.plans ask c.args.scene.limit c.enter.new.board e.suffix e.carries.carried (since.load.plans ∙ at.plans) e.early in
     let less = e.smaller in
-    (omega (arith, less), (within, (set, (named, (c.requires.limit, (c.requires.made, (c.requires.rooms, ((e.suffix, e.carries), (e.is_open, (ends, marks))))))))))
+    (omega (arith, less), (within, (set, (named, (c.requires.fits, ((e.suffix, e.carries), (e.is_open, (ends, marks))))))))
 
 pub undo_to-requires : goal.undo_to-requires
 undo_to-requires g t c =

@@ -1,5 +1,5 @@
 use Rattle.std.proofs.Common.{◌≡◌, ◌<◌, ◌+◌, ◌++◌, ◌∷◌, [], refl, sym, subst, ap, ◌∙◌, true, List, Option, Some, None, cond}
-use Rattle.std.specs.Prelude.{IfSome, MatchOption}
+use Rattle.std.specs.Prelude.{IfSome, IsSomeAnd, MatchOption}
 use Rattle.std.specs.Result.{IfOk}
 use Rattle.std.proofs.lemmas.Slice.Eq.{bytes_eq-Decides}
 use Rattle.tp_bounds.specs.declared.tree.Close.TheVariants.{Dead}
@@ -8,6 +8,8 @@ use Rattle.tp_bounds.specs.declared.tree.TreeRow.{TreeRow}
 use Rattle.tp_constraints.specs.Suffixes.{Suffix, with_action}
 use Rattle.tp_machine.specs.ModuleUse.{action_at}
 use Rattle.tp_placing.specs.Boards.{suffix_of}
+use Rattle.tp_placing.specs.Calls.{CanGoOn}
+use Rattle.tp_placing.proofs.StandFacts.{and-some}
 use Rattle.tp_schedule.specs.Plans.{AreNamed}
 use Rattle.tp_schedule.specs.Routes.{is_act_allowed}
 use Rattle.tp_schedule.specs.declared.parts.Plan.{Plan}
@@ -47,6 +49,16 @@ returns-in_default-room-clause-entered g c =
     (λ rows. action_due machine plans ask rows (branch_by r x) c.args.act) (λ _. []) o) c.put_dead.result c.put_dead.ensures.none c.put_dead.ensures.put
     (λ put x carried. dead-shows machine plans ask c.args.scene.rooms.now.sums c.args.scene.limit c.args.nodes.now c.put_dead.new.nodes r x c.args.act c.in-Some.state c.get.result.now.name (named g at) c.in-Some.ensures.known (found g at) (sym c.room.ensures ∙ c.in_default-room.is) put)
 
+pub open_action-requires-clause-ready : goal.open_action-requires-clause-ready
+open_action-requires-clause-ready g c =
+    let x = c.requires.carries.0 in
+    let k = c.requires.carries.1 in
+    and-some c.args.board.now.ask c.args.scene.ask.now (λ ask. IsSomeAnd (suffix_of c.args.board.now) (CanGoOn ask)) c.requires.set.asked
+    (and-some (suffix_of c.args.board.now) x (CanGoOn c.args.scene.ask.now) k.carried (record { going = k.going; fewer = c.requires.fewer x k.carried }))
+
+pub put_carried-requires-clause-set : goal.put_carried-requires-clause-set
+put_carried-requires-clause-set g c = record { stands = c.open_action.ensures.stands; asked = c.open_action.ensures.loaded.ask ∙ c.requires.set.asked; goal = c.requires.set.goal }
+
 pub put_carried-requires-clause-named : goal.put_carried-requires-clause-named
 put_carried-requires-clause-named g c = subst AreNamed (sym c.open_action.ensures.loaded.plans) c.requires.named
 
@@ -62,12 +74,15 @@ opened g c =
     carries-act g.N.Network.reading g.N.Network.refutes machine ask c.args.board.now c.open_action.new.self c.args.branch (opened_below c.args.branch c.args.act c.in-Some.state) x c.args.act c.in-Some-room.room
     c.in-Some.state k c.requires.known c.in-Some.ensures.known (c.requires.fewer x k.carried)
     (has-places g.N.Network.reading machine ask c.args.board.now c.requires.set c.args.branch x k c.requires.placed) steps.1 steps.0
-    (room-is machine ask c.args.scene.rooms.now.sums c.in-Some.state c.in-Some-room.room c.requires.rooms c.in-Some.ensures.known (sym c.room.ensures ∙ c.in-Some-room.is)) c.open_action.ensures.loaded c.in-Ok.ensures.suffix refl
+    (room-is machine ask c.args.scene.rooms.now.sums c.in-Some.state c.in-Some-room.room c.requires.fits.rooms c.in-Some.ensures.known (sym c.room.ensures ∙ c.in-Some-room.is)) c.open_action.ensures.loaded c.in-Ok.ensures.suffix refl
 
 pub put_carried-requires-clause-carries : goal.put_carried-requires-clause-carries
 put_carried-requires-clause-carries g c =
     let at = (goal.at.put_carried-requires-clause-carries g c).In-Ok in
     (with_action c.args.act c.in-Some-room.room c.requires.carries.0, (opened g at).0)
+
+pub put_late-requires-clause-set : goal.put_late-requires-clause-set
+put_late-requires-clause-set g c = record { stands = c.open_action.ensures.stands; asked = c.open_action.ensures.loaded.ask ∙ c.requires.set.asked; goal = c.requires.set.goal }
 
 pub put_late-requires-clause-named : goal.put_late-requires-clause-named
 put_late-requires-clause-named g c = subst AreNamed (sym c.open_action.ensures.loaded.plans) c.requires.named

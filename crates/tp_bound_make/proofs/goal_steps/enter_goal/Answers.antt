@@ -58,7 +58,7 @@ returns-in-Ok-clause-entered g c =
     let new = c.put_carried.new.nodes in
     let room = c.in-Some.room in
     let child = goal_below c.args.goal in
-    let is_room = room-is machine ask sums c.args.goal room c.requires.rooms c.requires.known (sym c.room.ensures ∙ c.in-Some.is) in
+    let is_room = room-is machine ask sums c.args.goal room c.requires.fits.rooms c.requires.known (sym c.room.ensures ∙ c.in-Some.is) in
     let carried = carries-goal g.N.Network.reading machine plans ask sums limit old new c.open_goal.new.self c.args.goal room c.requires.known c.requires.is_goal is_room c.requires.kept c.in-Ok.ensures.suffix in
     let Put = λ (ps : List Plan) (s : NamedState) (o : Option ShowBranch). (z : Suffix) → Carries g.N.Network.reading machine ask c.open_goal.new.self child z
     → MatchOption o (PutsNode machine ps ask limit old new (branch_by child z) (GoalHead s) (λ _. [])) (λ q. (q ≡ child) × PutsNode machine ps ask limit old new (branch_by child z) (GoalHead s) (λ rows. kids_of machine ps ask rows (branch_by child z))) in
@@ -79,7 +79,7 @@ put_carried-requires-clause-carries g c =
     let ask = c.args.scene.ask.now in
     let room = c.in-Some.room in
     let sums = c.args.scene.rooms.now.sums in
-    let is_room = room-is machine ask sums c.args.goal room c.requires.rooms c.requires.known (sym c.room.ensures ∙ c.in-Some.is) in (
+    let is_room = room-is machine ask sums c.args.goal room c.requires.fits.rooms c.requires.known (sym c.room.ensures ∙ c.in-Some.is) in (
       with_goal room,
       carries-goal g.N.Network.reading machine c.args.board.now.plans ask sums 0 [] [] c.open_goal.new.self c.args.goal room c.requires.known c.requires.is_goal is_room c.requires.kept c.in-Ok.ensures.suffix,
     )

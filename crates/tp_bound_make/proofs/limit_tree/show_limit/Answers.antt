@@ -27,7 +27,7 @@ covered g c =
 
 pub returns-in-Ok-show_goals-clause-tree : goal.returns-in-Ok-show_goals-clause-tree
 returns-in-Ok-show_goals-clause-tree g c = record {
-  rows = c.in-Ok.ensures.are c.args.ask.now c.requires.origin c.requires.rooms;
+  rows = c.in-Ok.ensures.are c.args.ask.now c.requires.origin c.requires.fits.rooms;
   nodes = (covered g (goal.at.returns-in-Ok-show_goals-clause-tree g c).In-Ok-show_goals).0;
 }
 

@@ -1,4 +1,4 @@
-use Rattle.std.proofs.Common.{◌≡◌, ◌-◌, ◌/◌, ◌∙◌, length, sym, subst, arith}
+use Rattle.std.proofs.Common.{◌≡◌, ◌∙◌, length, sym, subst, arith}
 use Rattle.std.specs.Prelude.{pos}
 use Rattle.tp_constraints.specs.Suffixes.{order_in}
 use Rattle.tp_schedule.specs.Plans.{AreNamed}
@@ -21,8 +21,8 @@ pub range_at-requires-in-wider-clause-begins : goal.range_at-requires-in-wider-c
 range_at-requires-in-wider-clause-begins g c =
     let r = c.wider.invariant.range c.requires.carries.0 c.requires.carries.1.carried in
     let reaches = r.reaches in
-    let test = c.wider-test.true in
-    omega (arith, reaches, test)
+    let above = c.middle_above-middle.ensures.above in
+    omega (arith, reaches, above)
 
 pub wider-smaller-in-Ok-Some-range_at : goal.wider-smaller-in-Ok-Some-range_at
 wider-smaller-in-Ok-Some-range_at g c =
@@ -30,8 +30,9 @@ wider-smaller-in-Ok-Some-range_at g c =
     let same = suffix-same g.N.Network.reading g.N.Network.refutes c.args.scene.machine.now c.args.scene.ask.now c.args.board.now c.wider.board back.content_same in
     let ranges = rw c.in-Ok-Some-range_at.field-0-is at c.in-Ok-Some-range_at.ensures in
     let reaches = (ranges.range c.requires.carries.0 (same ∙ c.requires.carries.1.carried)).reaches in
+    let above = c.middle_above-middle.ensures.above in
     let test = c.wider-test.true in
-    omega (arith, reaches, test)
+    omega (arith, reaches, above, test)
 
 pub wider-preserved-in-Ok-Some-range_at : goal.wider-preserved-in-Ok-Some-range_at
 wider-preserved-in-Ok-Some-range_at g c =
@@ -42,8 +43,8 @@ wider-preserved-in-Ok-Some-range_at g c =
     let same = suffix-same g.N.Network.reading g.N.Network.refutes machine ask c.args.board.now c.wider.board back.content_same in
     let ranges = rw c.in-Ok-Some-range_at.field-0-is at c.in-Ok-Some-range_at.ensures in
     record {
-      range = λ x carried. range-from machine c.args.board.now.plans ask (pos c.args.scene.limit) x places.rule places.lo (c.wider.most - (c.wider.most - c.wider.range.hi) / 2) places.last c.in-Ok-Some-range_at.wider
-          (subst (λ ps. IsRange machine ps ask (pos c.args.scene.limit) x places.rule places.lo (c.wider.most - (c.wider.most - c.wider.range.hi) / 2) places.last c.in-Ok-Some-range_at.wider) back.since.load.plans (ranges.range x (same ∙ carried)));
+      range = λ x carried. range-from machine c.args.board.now.plans ask (pos c.args.scene.limit) x places.rule places.lo c.middle_above-middle.result places.last c.in-Ok-Some-range_at.wider
+          (subst (λ ps. IsRange machine ps ask (pos c.args.scene.limit) x places.rule places.lo c.middle_above-middle.result places.last c.in-Ok-Some-range_at.wider) back.since.load.plans (ranges.range x (same ∙ carried)));
       most = c.wider.invariant.most;
       back = back-trans g.N.Network.reading c.args.board.now c.wider.board c.range_at-in-wider.new.board machine back c.range_at-in-wider.ensures.back;
     }
