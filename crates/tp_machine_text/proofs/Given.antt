@@ -2,6 +2,7 @@
 use Rattle.std.proofs.Common.{◌≡◌, ℕ, ◌≤◌, true, List, length, map, Option, Some, ap, sym, arith}
 use Rattle.std.specs.Prelude.{codes}
 use Rattle.std.specs.List.{list_all}
+use Rattle.tp_base.specs.NameText.{is_name_text}
 use Rattle.std.proofs.lemmas.List.{length-map}
 use Rattle.toml.specs.Data.{Data, Members, get_member}
 use Rattle.toml.specs.View.{view}
@@ -10,7 +11,7 @@ use Rattle.tp_machine_text.specs.Words.{elements_at, members_of, table_in, keys_
 use Rattle.tp_machine_text.specs.Keys as text
 use Rattle.tp_machine_text.specs.Kept.{KeepsRules}
 use Rattle.tp_machine_text.proofs.NumberFacts.{length_texts}
-use Rattle.tp_machine_text.proofs.KeptFacts.{few_locations, few_from, feeders_known}
+use Rattle.tp_machine_text.proofs.KeptFacts.{few_locations, few_from, few_resources, feeders_known, resources_named}
 
 pub few_seen : (vs : List Value) (ds : List Data) (n : ℕ) → map view vs ≡ ds → length ds ≤ n → length vs ≤ n
 few_seen vs ds n seen few =
@@ -38,3 +39,9 @@ pub media_given : (t : Members) (k : KeepsRules t) (ms : Members) → Some ms �
 media_given t k ms some =
     let e = the_members (table_in (get_member (codes "feeders") t)) ms some in
     rw (← e) k.media
+
+-- of the table of resources: it has few keys, and each is a name
+pub resources_given : (t : Members) (k : KeepsRules t) (ms : Members) → Some ms ≡ table_in (get_member (codes "resources") t) → (length (keys_of ms) ≤ 256) × (list_all is_name_text (keys_of ms) ≡ true)
+resources_given t k ms some =
+    let e = the_members (table_in (get_member (codes "resources") t)) ms some in
+    (rw (← e) (few_resources t k), rw (← e) (resources_named t k))

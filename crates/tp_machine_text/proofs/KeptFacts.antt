@@ -79,6 +79,9 @@ module _ (t : Members) (k : KeepsRules t) where
   pub few_resources_test : nat_le (length (text.resources t)) 256 ≡ true
   few_resources_test = (and_parts (is_fit is_table (get_member (codes "resources") t)) (nat_le (length (text.resources t)) 256) resource_parts.0).1
 
+  pub few_resources : length (text.resources t) ≤ 256
+  few_resources = let test = few_resources_test in grind (arith, nat_tests)
+
   pub resources_named : list_all is_name_text (text.resources t) ≡ true
   resources_named = resource_parts.1
 
