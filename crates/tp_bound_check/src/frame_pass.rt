@@ -188,6 +188,7 @@ impl<'a> CheckScene<'a> {
         ensures ranked { IsRankedPassing self.now.rows.machine.now self.now.plans.now
             ranks.now.before (Goals at) result }
     {
+        // For the prover: brings length goals < 2^64.
         let _count = goals.len();
         match goal_at(goals, at) {
             Some(state) => {

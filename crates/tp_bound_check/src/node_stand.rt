@@ -47,9 +47,10 @@ impl<'a> CheckScene<'a> {
             self.now.rows.machine.now.resources resource.0) }
     {
         let machine = self.rows.machine;
-        match machine.resources.as_slice().get(usize::from(resource.0)) {
-            Some(held) => *name == held.name,
-            None => false,
+        if u32::from(resource.0) < machine.resources.len() {
+            *name == machine.resources.get(u32::from(resource.0)).name
+        } else {
+            false
         }
     }
 

@@ -172,6 +172,7 @@ impl<'a> CheckScene<'a> {
         ensures track { IsTrack result }
         ensures few { result.len < 2 ^ 32 + 4 * count }
     {
+        // For the prover: brings length choices ≤ 64.
         let _most = branch.count();
         let mut track = part.track;
         'choices: for at in part.count..count {

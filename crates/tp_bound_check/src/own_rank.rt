@@ -75,6 +75,7 @@ impl<'a> CheckScene<'a> {
         ensures { result ≡ rank_at place (order_until self.now.rows.machine.now self.now.plans.now
             branch.now resource count) }
     {
+        // For the prover: brings length choices ≤ 64.
         let _most = branch.count();
         let mut left = place;
         let mut at = count;
