@@ -1,9 +1,10 @@
-use Rattle.std.proofs.Common.{arith, sym, refl, ap, ◌∙◌, subst, ◌≡◌, ℕ, ◌+◌, min, length, Some, None, List, ◌++◌, ◌∷◌, []}
+use Rattle.std.proofs.Common.{arith, AllPairs, sym, refl, ap, ◌∙◌, subst, ◌≡◌, ℕ, ◌+◌, min, length, Some, None, List, ◌++◌, ◌∷◌, []}
 use Rattle.std.proofs.lemmas.List.{length-append}
 use Rattle.tp_base.specs.declared.edges.Edge.{Edge}
 use Rattle.tp_base.specs.Net.{Net, HasNoSolution, HasLeast, with_point, with_edges}
 use Rattle.tp_machine.specs.declared.machine.Machine.{Machine}
 use Rattle.tp_schedule.specs.Choices.{start_floor}
+use Rattle.tp_schedule.specs.Plans.{IsEarlier}
 use Rattle.tp_base.specs.declared.edges.PointId.{PointId}
 use Rattle.tp_schedule.specs.declared.parts.Plan.{Plan}
 use Rattle.tp_constraints.specs.Suffixes.{with_goal}
@@ -15,7 +16,7 @@ use Rattle.tp_placing.specs.Inside.{board_of}
 use Rattle.tp_placing.specs.LoadedBoard.{AreCaused, Stands, StandsOn, IsAtWith}
 use Rattle.tp_placing.proofs.BoardFacts.{board-step}
 use Rattle.tp_placing.proofs.CauseFacts.{keeps-all}
-use Rattle.tp_placing.proofs.GoalFacts.{goal-caused, empty, can-open, few-edges, goal-reason, goal-refused, goal-at}
+use Rattle.tp_placing.proofs.GoalFacts.{goal-caused, empty, can-open, few-edges, lows-loaded, at-none, goal-reason, goal-refused, goal-at}
 use Rattle.tp_placing.proofs.PastFacts.{side-steps}
 use Rattle.tp_placing.proofs.StandFacts.{has-times, and-some, stands-ask, stands-after, stands-still}
 use Rattle.tp_placing.proofs.StepFacts.{suffix-push}
@@ -160,3 +161,22 @@ returns-clause-stands g k m st =
           (rw (k.in-Ok.ensures.past, k.push_reserved.ensures.items) (side-steps a.held.items a.steps.items (_ ∷ []) (g.N.Network.reading.past a.net) a.timelines.past a.marks.items (λ j n z. i.steps_below j n z)))
           now at (keeps-all _ _) caused,
     )
+
+pub line_edges-requires-clause-in_order : goal.line_edges-requires-clause-in_order
+line_edges-requires-clause-in_order g k =
+    let c = (goal.at.line_edges-requires-clause-in_order g k).In-Some in
+    subst (AllPairs IsEarlier) (sym k.deref.ensures.value) (known g c).loadable.legal.in_order
+
+pub extend-requires-clause-capacity : goal.extend-requires-clause-capacity
+extend-requires-clause-capacity g k =
+    let c = (goal.at.extend-requires-clause-capacity g k).In-Some in
+    let s = known g c in
+    let lows = lows-loaded g.N.Network.reading (board g c) c.requires.stands.0 c.in-Some.ask s (closed g c) k.args.room in
+    let few = s.few_points in
+    let last = s.last in
+    let kept = (at-none g.N.Network.reading (board g c) c.requires.stands.0 c.in-Some.ask s (closed g c) k.args.room).few_steps.1 in
+    let p = k.self.invariant.capacity.points in
+    omega arith
+
+pub returns-clause-suffix : goal.returns-clause-suffix
+returns-clause-suffix g k = suffix-now g (goal.at.returns-clause-suffix g k).In-Some k.args.room k.push_reserved.new.self.items _ k.push_reserved.ensures.items refl
