@@ -21,7 +21,7 @@ use Rattle.tp_placing.proofs.ActionFacts.{OpensHere, opens-here, can-open, open-
 use Rattle.tp_placing.proofs.CauseFacts.{keeps-all}
 use Rattle.tp_placing.proofs.BoardFacts.{board-step, steps-room}
 use Rattle.tp_placing.proofs.PastFacts.{side-steps}
-use Rattle.tp_placing.proofs.StandFacts.{has-times, some-and, and-some, stands-after, stands-still, length-lows}
+use Rattle.tp_placing.proofs.StandFacts.{has-times, some-and, and-some, stands-after, stands-still, length-lows, edge-room}
 use Rattle.tp_placing.proofs.StepFacts.{suffix-push, some-steps}
 use Rattle.tp_placing.proofs.board.Board.open_action.Goals as goal
 use Rattle.tp_placing.proofs.board.Board.open_action.Goals.{After-index-newest}
@@ -211,3 +211,12 @@ returns-clause-stands g k =
           (rw (k.in-Ok.ensures.past, k.push_reserved.ensures.items) (side-steps a.held.items a.steps.items (_ ∷ []) (g.N.Network.reading.past a.net) a.timelines.past a.marks.items (λ j n z. i.steps_below j n z)))
           now at (keeps-all _ _) caused,
     )
+
+pub extend-requires-clause-spare : goal.extend-requires-clause-spare
+extend-requires-clause-spare g k =
+    let c = (goal.at.extend-requires-clause-spare g k).After-index-newest in
+    let a = c.self.inside in
+    let r = k.self.invariant.capacity in
+    let room = edge-room a.steps.items (length (g.N.Network.reading.net a.net).edges) (g.N.Network.reading.max_edges a.net) r.steps_few (here g c).at.few_edges r.edges in
+    let two = ap length k.lasting-edges.ensures in
+    omega arith
