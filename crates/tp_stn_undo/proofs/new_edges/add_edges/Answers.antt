@@ -8,7 +8,6 @@ use Rattle.tp_stn_undo.proofs.LinkedFacts.{same_links}
 use Rattle.tp_stn_undo.proofs.NoteFacts.{same_saves}
 use Rattle.tp_stn_undo.proofs.AddFacts.{linked_len, adds_next, refuted_next, unlinked}
 use Rattle.std.proofs.Math.Seq.{take-append_seam}
-use Rattle.tp_stn_undo.specs.declared.link.Link.{Link}
 use Rattle.tp_base.specs.declared.edges.Edge.{Edge}
 use Rattle.tp_stn_undo.proofs.new_edges.add_edges.Goals as goal
 

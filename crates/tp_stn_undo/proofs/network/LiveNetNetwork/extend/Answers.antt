@@ -21,7 +21,6 @@ use Rattle.tp_stn_undo.proofs.ChangedFacts.{IsChanged, HoldsTogether, point_push
 use Rattle.tp_base.specs.Refute.{IsLateChain}
 use Rattle.tp_base.specs.Grows.{IsKnown}
 use Rattle.std.specs.List.{All}
-use Rattle.tp_base.specs.declared.edges.Edge.{Edge}
 use Rattle.tp_base.proofs.RefuteFacts.{chain_refutes}
 use Rattle.tp_stn_undo.proofs.LateFacts.{late_point, same_net}
 use Rattle.tp_stn_undo.proofs.network.LiveNetNetwork.extend.Goals as goal

@@ -2,16 +2,15 @@ use Rattle.std.proofs.Common.{arith, ◌≡◌, ℕ, ◌<◌, ◌≤◌, List, [
 use Rattle.std.proofs.lemmas.List.{get_or_read}
 use Rattle.std.specs.Vec.{with_items}
 use Rattle.tp_stn_undo.specs.declared.live_net.LiveNet.TheInside.{Inside}
-use Rattle.tp_base.specs.Net.{HasNoSolution, with_low}
+use Rattle.tp_base.specs.Net.{with_low}
 use Rattle.tp_base.specs.Refute.{IsLateChain}
-use Rattle.tp_base.specs.Grows.{AreWithin, IsSupported, cause_of, IsKnown}
+use Rattle.tp_base.specs.Grows.{AreWithin, IsKnown}
 use Rattle.tp_base.specs.Kept.{net_of, KeptRefutes}
 use Rattle.tp_base.proofs.LeastFacts.{mut_items, raised_chain}
 use Rattle.tp_base.proofs.RisenFacts.{kept_refutes}
 use Rattle.tp_stn_undo.specs.declared.point_state.PointState.{PointState}
 use Rattle.tp_stn_undo.specs.declared.point_state.SavedState.{SavedState}
-use Rattle.tp_stn_undo.specs.declared.link.Link.{Link}
-use Rattle.tp_stn_undo.specs.States.{IsSound, net_of_core, lows_of, times_of, edges_of, causes_of}
+use Rattle.tp_stn_undo.specs.States.{IsSound, net_of_core, lows_of, times_of, edges_of}
 use Rattle.tp_stn_undo.specs.Flags.{AreKnown, IsSameSave}
 use Rattle.tp_stn_undo.specs.Live.{core_in}
 use Rattle.tp_stn_undo.specs.Marks.{past_of, nets_of}

@@ -1,4 +1,4 @@
-use Rattle.std.proofs.Common.{arith, ◌≡◌, ◌+◌, ◌*◌, [], ◌∷◌, length, ap, ◌∙◌, ◌<◌, vec_capacity, sym, List, ◌++◌, vec_len}
+use Rattle.std.proofs.Common.{arith, ◌≡◌, ◌+◌, ◌*◌, [], ◌∷◌, length, ap, ◌∙◌, ◌<◌, vec_capacity, List, ◌++◌, vec_len}
 use Rattle.std.proofs.lemmas.List.{length-append, length-map, map-append}
 use Rattle.std.proofs.lemmas.List.Elements.{All-push}
 use Rattle.tp_stn_undo.specs.declared.marks.LiveMark.{LiveMark}
