@@ -243,24 +243,29 @@ class Story:
             Event("clock", ("1000000001",)), Event("refill", (next(iter(self.machine.feeders)), "1000000")),
         ])
 
-    def rush(self):
-        """A job of many sheets, and a jam in a module that leads to a tray while some of them are on their way."""
-        tray, medium, *wants = self.draw.choice([(tray, medium, spec) for spec, tray, medium in self.ways])
+    def rushes(self):
+        """The kinds of sheets for trays that several modules lead to, each with one of these modules."""
+        for spec, tray, medium in self.ways:
+            lasts = sorted({it.module for it in self.machine.actions if it.target == tray})
+            if len(lasts) > 1:
+                yield from ((spec, tray, medium, module) for module in lasts)
+
+    def rush(self, spec, tray, medium, module):
+        """A job of many sheets, and a jam in a module that leads to its tray while some of them are on their way."""
         self.jobs += 1
-        self.now += self.draw.randrange(2, 16)
-        last = self.draw.choice([it.module for it in self.machine.actions if it.target == tray])
-        self.out.append(last)
-        job = Event("job", (f"j{self.jobs}", tray, medium, f"{self.draw.randrange(3, 9)}*{wants[0]}"))
-        return [job, Event("clock", (str(self.now),)), Event("jam", (last,))]
+        self.now += self.draw.randrange(3, 18)
+        self.out.append(module)
+        job = Event("job", (f"j{self.jobs}", tray, medium, f"{self.draw.randrange(4, 9)}*{spec}"))
+        return [job, Event("clock", (str(self.now),)), Event("jam", (module,))]
 
     def events(self, count):
-        made = self.rush() if self.ways and self.draw.random() < 0.2 else [self.job()]
+        rushes = list(self.rushes())
+        made = self.rush(*self.draw.choice(rushes)) if rushes and self.draw.random() < 0.5 else [self.job()]
         while len(made) < count:
             kinds = [self.job, self.clock, self.outage, self.back, self.refill, self.refused]
             rest = 1 + 6 * len(self.out)
             made.append(self.draw.choices(kinds, [4, 10, 4, rest, 1, 1])[0]())
         return made
-
 
     def crowded_events(self):
         """Jobs of more sheets than may be live, and moves of the clock that make room for some."""
