@@ -1,4 +1,4 @@
-"""Counts the instructions of a run, by callgrind of valgrind. Other load on the machine does not change them."""
+"""What a run takes, as far as other load on the machine does not change it: instructions, by callgrind of valgrind, and processor time."""
 import re
 import shutil
 import subprocess
@@ -16,3 +16,9 @@ def count_instructions(words, script):
     if run.returncode or not found:
         raise RuntimeError(f"{' '.join(words)}: status {run.returncode}: {run.stderr.decode(errors='replace')[-300:]}")
     return int(found[1].replace(b",", b""))
+
+
+def processor_seconds(pid):
+    """The seconds for which a process has run on a processor."""
+    with open(f"/proc/{pid}/schedstat", encoding="utf-8") as file:
+        return int(file.read().split()[0]) / 1e9

@@ -10,12 +10,12 @@ import time
 
 
 class Printer:
-    """A running `printer run MACHINE`. A line that is no event marks where an answer ends: it changes nothing."""
+    """A running `printer run OPTIONS MACHINE`. A line that is no event marks where an answer ends: it changes nothing."""
 
     MARK = "?"
 
-    def __init__(self, program, machine):
-        words = [program, "run", machine]
+    def __init__(self, program, machine, *options):
+        words = [program, "run", *options, machine]
         self.process = subprocess.Popen(words, stdin=subprocess.PIPE, stdout=subprocess.PIPE, text=True, bufsize=1)
 
     def answer(self, event):
