@@ -137,7 +137,7 @@ fn again(alloc: Global, bytes: &[u8]) -> Result<Vec<u8>, Fail> {
 /// Brings the desk to the standing, and returns where it stands then.
 fn stood<D: Desk>(alloc: Global, desk: &mut D, standing: &Standing) -> Result<Standing, Memory>
     requires sound { D.sound (D.machine desk.old) standing.now }
-    ensures stands { IfOk result (λ told. told ≡ standing.now) }
+    ensures stands { IfOk result (λ told. told ≡ standing.entry.now) }
     ensures same_machine { D.machine desk.new ≡ D.machine desk.old }
 {
     desk.restore(standing)?;
