@@ -20,6 +20,9 @@ LONGEST_LINE = 4_194_304
 # How many changed texts of each kind are tried.
 TEXTS = 20_000
 
+# The program reads TOML 1.1, in which an inline table may have line ends and a last comma, and Python's reader TOML 1.0.
+NEWER_TABLE = re.compile(rb",\s*\}|\{[^{}]*\n")
+
 NUMBERS = [b"0", b"-1", b"1", b"255", b"256", b"4096", b"4097", b"65536", b"2147483647", b"2147483648", b"4294967295",
            b"4294967296", b"9223372036854775807", b"9223372036854775808", b"100000000000000000000", b"1.0", b"-0"]
 
@@ -133,6 +136,8 @@ def tells_the_rule(text, run):
         return None
     except MachineFault as fault:
         wanted = f"printer: machine: {fault}"
+    if told != wanted and wanted.endswith("not TOML") and NEWER_TABLE.search(text):
+        return None
     return None if told == wanted else f"{told or 'no fault'}, and the judge says {wanted or 'no fault'}"
 
 
