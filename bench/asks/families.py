@@ -68,7 +68,8 @@ def rack(size, draws):
     machine = frame(8000, draws.between(20, 60), draws.one_of(LOOP_WAITS))
     add_feeder(machine, "f", 2, draws.between(4, 8))
     add_engines(machine, draws.between(4, 12) if size < 128 else draws.between(2, 4), (2, 8), draws)
-    return machine, orders(size, ONE_SIDED, draws, 2 if size < 200 else 0) + [ask(draws.one_of(BOTH_SIDES))]
+    lines = orders(size, ONE_SIDED, draws, 2 if size < 200 else 0)
+    return machine, lines + [ask(draws.one_of(BOTH_SIDES if size < 128 else ONE_SIDED))]
 
 
 def duplex(draws, ticks, wait, window=16000, out_most=30, tinted=False):
@@ -244,11 +245,11 @@ FAMILIES = {"rack": rack, "loop": loop, "buffer": buffer, "slack": slack, "grid"
 # The sizes of the asks of the set, smallest first.
 SIZES = {
     "rack": (0, 8, 32, 64, 128, 255),
-    "loop": (0, 8, 16, 20, 24, 48),
-    "buffer": (4, 8, 10, 12, 14, 20),
-    "slack": (4, 8, 12, 16, 24, 40),
-    "grid": (0, 4, 6, 8, 10, 14),
-    "tint": (0, 16, 24, 32, 48, 64),
+    "loop": (0, 16, 24, 32, 40, 48),
+    "buffer": (4, 8, 10, 12, 14, 16),
+    "slack": (4, 8, 16, 24, 32, 40),
+    "grid": (0, 6, 8, 10, 12, 14),
+    "tint": (0, 16, 24, 32, 48, 56),
     "stock": (4, 8, 16, 32, 64, 128),
     "flight": (8, 16, 24, 32, 40, 48),
 }

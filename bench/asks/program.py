@@ -1,4 +1,5 @@
 """Calls of a built printer. All times are of the processor, so that other work on the machine counts little."""
+import json
 import os
 import re
 import resource
@@ -85,3 +86,13 @@ class Program:
         path, begin = self.file("snapshot.json", snapshot), seconds_spent()
         log = self.call(["resume", "--budget", str(budget), path], line + "\n", limit)
         return answer_of(log), (seconds_spent() - begin) * 1000
+
+    def save_and_resume(self, machine, lines, budget, limit=None):
+        """The snapshot before the last line, and the log with bounds of all lines, joined and checked; or None if a copy waits there."""
+        before, snapshot = self.save(machine, "".join(lines[:-1]), budget, limit)
+        if json.loads(snapshot)["waiting"]:
+            return None
+        words = ["resume", "--bounds", "--budget", str(budget), self.file("snapshot.json", snapshot)]
+        log = before + self.call(words, lines[-1], limit)
+        self.call(["check", self.file("machine.toml", machine)], log, limit)
+        return snapshot, log

@@ -4,10 +4,9 @@ from minizinc_data import edge_rows, hold_rows, numbered, text_of_rows
 from route import Route
 
 
-def can_plan_whole(ask):
-    """Whether the script has jobs and clocks alone, the feeders are endless, and a plan of the ask is known."""
-    verbs = {line.split(" ")[0] for line in ask.script().splitlines()}
-    return verbs <= {"job", "clock"} and "[stock]" not in ask.machine() and ask.answer != "none"
+def can_plan_whole(machine, script):
+    """Whether the script has jobs and clocks alone, and the feeders are endless."""
+    return {line.split(" ")[0] for line in script.splitlines()} <= {"job", "clock"} and "[stock]" not in machine
 
 
 def sheets_of(script):
@@ -24,11 +23,9 @@ def sheets_of(script):
     return found
 
 
-def whole_data(ask, latest):
-    """The text of the data of an ask's script, whose last sheet is to end by `latest`."""
-    machine = read_machine(ask.machine().encode("utf-8"))
-    sheets = sheets_of(ask.script())
-    whole = Whole(machine)
+def whole_data(machine, script, latest):
+    """The text of the data of a script, whose last sheet is to end by `latest`."""
+    whole, sheets = Whole(read_machine(machine.encode("utf-8"))), sheets_of(script)
     for number, (sheet, tray, now) in enumerate(sheets):
         # Ends rise along the line, so an earlier sheet ends a tick sooner at least.
         whole.add(sheet, tray, now, latest - (len(sheets) - 1 - number))
