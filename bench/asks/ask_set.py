@@ -79,10 +79,16 @@ def ask_of(row, files):
 
 def find(name):
     """The ask of this name."""
-    for ask in read_set():
-        if ask.name == name:
-            return ask
-    raise SetFault(f"the set has no ask {name}")
+    return find_all([name])[0]
+
+
+def find_all(names):
+    """The asks of these names, or all asks if there are none."""
+    asks = {ask.name: ask for ask in read_set()}
+    for name in names:
+        if name not in asks:
+            raise SetFault(f"the set has no ask {name}")
+    return [asks[name] for name in names] if names else list(asks.values())
 
 
 def read_archive():
