@@ -140,7 +140,7 @@ find-cut a zero (suc hi) (x ∷ xs) le apart =
 find-cut a (suc lo) (suc hi) (x ∷ xs) le apart =
     ap (cond (is_same_spot x.from a) (Some x)) (find-cut a lo hi xs (omega arith) (AllPairs-tail Apart x xs apart)) ∙ stay-find lo hi (suc lo) (suc hi) (next-both lo hi) x (is_same_spot x.from a) (found_in a xs) (head-out lo (suc hi) x)
 
--- where the places are told of the two holds, so is what is between them
+-- where the places of the two holds are known, so is what is between them
 pub gap-cut : (apart : ℕ) (b a : Spot) (lo hi : ℕ) (xs : List Slot) → lo ≤ hi → AllPairs Apart xs → gap_in apart b a (cut lo hi xs) ≡ gap_out apart lo hi (found_in b xs) (found_in a xs)
 gap-cut apart b a zero zero [] le pairs = refl
 gap-cut apart b a zero (suc hi) [] le pairs = refl

@@ -1,4 +1,4 @@
--- Each hop of a board's reason is allowed as it is told, and says the same.
+-- Each hop of a board's reason is allowed as it is named, and says the same.
 use Rattle.std.proofs.Common.{◌≡◌, ◌≢◌, inl, inr, ℕ, zero, suc, ◌≤◌, ◌<◌, Bool, true, false, cond, ◌&&◌, ◌==◌, List, [], ◌∷◌, length, reverse, refl, sym, ◌∙◌, ap, subst, arith, AllPairs, Contains, Some, find}
 use Rattle.std.specs.Prelude.{slice_get, nat_le, nat_lt, pos, neg_ℤ, option_map}
 use Rattle.std.specs.Str.{bytes_eq}

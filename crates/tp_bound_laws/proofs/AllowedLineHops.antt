@@ -1,4 +1,4 @@
--- Hops along durations and lines are allowed as they are told, and so each hop is.
+-- Hops along durations and lines are allowed as they are named, and so each hop is.
 use Rattle.std.proofs.Common.{◌≡◌, ℕ, zero, suc, ◌≤◌, Bool, true, false, cond, not, ◌==◌, List, [], ◌∷◌, length, refl, sym, ◌∙◌, ap, subst, arith, AllPairs, Contains, Some, None}
 use Rattle.std.specs.Prelude.{pos, neg_ℤ, option_map}
 use Rattle.std.proofs.lemmas.Bool.{eqb-true, and_parts, and_from}

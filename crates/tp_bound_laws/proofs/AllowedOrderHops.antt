@@ -1,4 +1,4 @@
--- Hops along orders are allowed as they are told.
+-- Hops along orders are allowed as they are named.
 use Rattle.std.proofs.Common.{◌≡◌, ◌≢◌, ℕ, zero, suc, ◌+◌, ◌≤◌, ◌<◌, Bool, true, false, List, [], ◌∷◌, length, map, refl, sym, ◌∙◌, ap, subst, arith, All, AllPairs, Contains, Option, Some, None, position}
 use Rattle.std.specs.Prelude.{slice_get, ℤ, option_map, option_and_then}
 use Rattle.std.specs.List.{position_or_len}

@@ -1,4 +1,4 @@
--- How a hop of a board's reason is told in a tree.
+-- How a hop of a board's reason is named in a tree.
 use Rattle.std.specs.Prelude.{◌≡◌, ◌+◌, ◌<◌, length, List, map, Option, Some, None, option_map, option_and_then, slice_get, ℤ}
 use Rattle.tp_bounds.specs.declared.hops.Hop.{Hop as TreeHop}
 use Rattle.tp_bounds.specs.declared.hops.Hop.TheVariants.{Duration, Line, «Resource» as Res}
@@ -54,12 +54,12 @@ CanBeTold machine stop = ⊥
 CanBeTold machine limit = ⊥
 CanBeTold machine _ = Unit {0}
 
--- where a branch is the board's suffix, each such hop of a reason is told
+-- where a branch is the board's suffix, each such hop of a reason is named
 abbrev pub HopsAreTold : Type 0
 HopsAreTold = (machine : Machine) (plans : List Plan) (ask : Ask) (b : Branch) (h : Hop) → IsLegal machine plans → AreNamed plans → IsHop machine plans ask b.x h → CanBeTold machine h.kind
     → (k : TreeHop) × (told machine plans h ≡ Some k)
 
--- it is allowed as it is told, and says the same
+-- it is allowed as it is named, and says the same
 abbrev pub HopsAreAllowed : Type 0
 HopsAreAllowed = (machine : Machine) (plans : List Plan) (ask : Ask) (limit : ℤ) (b : Branch) (h : Hop) (k : TreeHop) → IsLegal machine plans → AreNamed plans → AreDifferent (map (λ r. r.name) machine.resources)
     → IsHop machine plans ask b.x h → told machine plans h ≡ Some k → gap_of machine plans ask limit (record { branch = b; span = None }) h.gap.from k ≡ Some h.gap

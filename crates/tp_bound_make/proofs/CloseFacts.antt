@@ -1,4 +1,4 @@
--- What a board refused can be told, and what tells of it is the close.
+-- What a board refused can be named, and what names it is the close.
 use Rattle.std.proofs.Common.{◌≡◌, ℕ, suc, ◌<◌, ◌≤◌, false, List, [], ◌∷◌, length, map, sym, ◌∙◌, ap, subst, arith, All, Option, Some, None, IsSomeAnd}
 use Rattle.std.specs.Prelude.{ℤ, pos}
 use Rattle.std.proofs.lemmas.List.{length-append, length-map}

@@ -88,7 +88,7 @@ module _ (machine : Machine) (plans : List Plan) (ask : Ask) (rows : List TreeRo
     either-all : All Either whole.edges
     either-all = All-append Either net.edges (limit_edge ∷ []) (λ k d w. inl (hops k d w, is.edges k d w)) (All-cons Either limit_edge [] (inr refl) (All-nil Either))
 
-    -- nothing is told of the limit
+    -- the limit has no name
     limit-untold : tell machine plans causes limit_edge ≡ None
     limit-untold = ap (λ o. told_by machine plans (kind_of plans o) (numbered plans (length net.lows))) caused
 
@@ -178,7 +178,7 @@ module _ (machine : Machine) (plans : List Plan) (ask : Ask) (rows : List TreeRo
           name-found machine plans ask rows (pos final) alone set.legal.in_order set.named last point name (frame.known point.0 below)
           (before-limit machine plans ask last (record { 0 = length net.lows }) point some (let s = size in omega (arith, s, below))) told
 
-      -- an edge of which nothing is told is the limit's
+      -- an edge without a name is the limit's
       is-limit : (e : Edge) → Either e → tell machine plans causes e ≡ None → limit_edge ≡ e
       is-limit e (inl h) untold = let t = named-told machine plans ask b causes set.legal set.named going e h.0 in let yes = t.1 in absurd cc
       is-limit e (inr same) untold = same

@@ -1,4 +1,4 @@
--- Edges that lead from point to point are hops that lead so far, up to the first edge of which nothing is told.
+-- Edges that lead from point to point are hops that lead so far, up to the first edge without a name.
 use Rattle.std.proofs.Common.{◌≡◌, ◌⊎◌, inl, inr, ℕ, suc, List, [], ◌∷◌, ◌++◌, refl, sym, ◌∙◌, ap, subst, arith, All, Option, Some, None}
 use Rattle.std.specs.Prelude.{ℤ, pos, ◌+ℤ◌}
 use Rattle.std.proofs.lemmas.Int.{ints}
@@ -19,7 +19,7 @@ use Rattle.tp_bound_laws.specs.Places.{Stand}
 use Rattle.tp_bound_make.specs.TellableReasons.{IsTold, tell, told_then, told_until}
 
 module _ (machine : Machine) (plans : List Plan) (ask : Ask) (limit : ℤ) (s : Stand) (causes : List EdgeCause) where
-  -- what is told of the edge is allowed there, and says the same
+  -- the name of the edge is allowed there, and says the same
   abbrev pub IsAllowed : Edge → Type 0
   IsAllowed e = (k : TreeHop) → tell machine plans causes e ≡ Some k → gap_of machine plans ask limit s (numbered plans e.from.0) k ≡ Some (gap (numbered plans e.from.0) (numbered plans e.to.0) e.weight)
 
@@ -29,12 +29,12 @@ module _ (machine : Machine) (plans : List Plan) (ask : Ask) (limit : ℤ) (s : 
   abbrev go_on : ℕ → Spot → ℤ → List TreeHop → Led
   go_on k p sum hops = follow machine plans ask limit s k p sum hops
 
-  -- all edges are told, and lead to the last point
+  -- all edges are named, and lead to the last point
   pub record IsWhole (a b : ℕ) (es : List Edge) : Type 0 where
     pub all : All (IsTold f) es
     pub leads : (k : ℕ) (sum : ℤ) → go_on k (numbered plans a) sum (told_until f es) ≡ led (numbered plans b) (sum +ℤ total_weight es)
 
-  -- the edges up to one of which nothing is told lead to where it begins
+  -- the edges up to one without a name lead to where it begins
   pub record IsCut (a b : ℕ) (es : List Edge) : Type 0 where
     pub before : List Edge
     pub edge : Edge

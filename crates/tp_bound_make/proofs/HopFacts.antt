@@ -1,4 +1,4 @@
--- The edges of a board's network can be told, and what is told of them is allowed.
+-- The edges of a board's network can be named, and their names are allowed.
 use Rattle.std.proofs.Common.{◌≡◌, ℕ, ◌<◌, false, ◌==◌, List, length, map, refl, arith, Option, Some, None}
 use Rattle.std.specs.Prelude.{ℤ, slice_get}
 use Rattle.std.proofs.lemmas.Bool.Decides.{nat_tests}

@@ -73,7 +73,7 @@ module _ (machine : Machine) (plans : List Plan) (ask : Ask) (limit : ℤ) (lega
   hop-kept from (Line to) g e = point-kept (line_gap ask plans) from (spot_of plans (length x.choices) to) g (λ q. line-hop machine plans ask x t times legal from q g) e
   hop-kept from (Res name before after) g e = here-kept from _ g (hold-kept _ (start_of plans (length x.choices) before) (start_of plans (length x.choices) after)) e
 
-  -- edges that are told take no more than the ticks leave
+  -- edges that are named take no more than the ticks leave
   pub edges-kept : (causes : List EdgeCause) (es : List Edge) (a z : ℕ) → All (IsAllowed machine plans ask limit here causes) es → All (IsTold (tell machine plans causes)) es → Leads a es z
       → (pos (t (numbered plans a)) +ℤ total_weight es) ≤ℤ pos (t (numbered plans z))
   edges-kept causes [] a z allowed told leads = subst (λ q. (pos (t (numbered plans a)) +ℤ pos 0) ≤ℤ pos (t (numbered plans q))) leads (omega (arith, ints))

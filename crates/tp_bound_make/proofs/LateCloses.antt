@@ -47,7 +47,7 @@ module _ (machine : Machine) (plans : List Plan) (ask : Ask) (rows : List TreeRo
   abbrev count : ℕ
   count = length s.branch.x.choices
 
-  -- a chain all of whose edges are told
+  -- a chain all of whose edges are named
   pub whole-closes : (first last : ℕ) (edges : List Edge) (name : TreePoint) → IsWhole machine plans ask limit s causes first last edges → first < points → last < points
       → pos (slice_index late.caps last) <ℤ (pos (slice_index late.lows first) +ℤ total_weight edges) → spot_of plans count name ≡ Some (numbered plans first)
       → chain_look machine plans ask rows limit s (spot_of plans count name) (told_until (tell machine plans causes) edges) ≡ due []

@@ -108,7 +108,7 @@ module _ (machine : Machine) (plans : List Plan) (ask : Ask) (rows : List TreeRo
         caps = λ i below. let p = (table-point net is i below).cap in let c : slice_index late.caps i ≡ slice_index net.caps i = ap (λ l. slice_index l i) part.caps in let e = cap-below (numbered plans i) by early in omega (arith, ints);
       }
 
-  -- a name that was told is found again
+  -- a name that was given is found again
   pub name-found : AllPairs IsEarlier plans → AreNamed plans → (last : Option PointId) (point : PointId) (name : TreePoint) → IsPoint plans (suc count) (numbered plans point.0) → named_point plans last point ≡ spot_name plans (numbered plans point.0)
       → IsNameOf plans last point name → spot_of plans count name ≡ Some (numbered plans point.0)
   name-found in_order named last point name known here told =

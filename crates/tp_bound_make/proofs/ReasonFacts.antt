@@ -1,4 +1,4 @@
--- The edges of a proof are few and can be told, where those of its network can.
+-- The edges of a proof are few and can be named, where those of its network can.
 use Rattle.std.proofs.Common.{◌≡◌, ◌⊎◌, inl, inr, ℕ, zero, suc, ◌+◌, ◌<◌, ◌≤◌, Bor, List, [], ◌∷◌, length, length-drop, drop, take, sym, subst, ap, arith, All, Contains, Option, Result, Ok, Err}
 use Rattle.std.specs.Result.{IfOk, OnOk}
 use Rattle.std.specs.Prelude.{pos, ◌<ℤ◌, slice_index}

@@ -110,7 +110,7 @@ module _ (machine : Machine) (plans : List Plan) (ask : Ask) (rows : List TreeRo
     found : (last : Option PointId) → last ≡ None → (point : PointId) (name : TreePoint) → point.0 < length table → IsNameOf plans last point name → spot_of plans (length x.choices) name ≡ Some (numbered plans point.0)
     found last none point name below told = name-found machine plans ask rows limit alone set.legal.in_order set.named last point name (frame.known point.0 below) (own-named machine plans ask last point none) told
 
-    -- an edge of which nothing is told is the stop
+    -- an edge without a name is the stop
     pub record IsStop (e : Edge) : Type 0 where
       pub from : numbered plans e.from.0 ≡ own (length x.choices)
       pub to : numbered plans e.to.0 ≡ kept ask.sheet (kept_of ask)
@@ -136,7 +136,7 @@ module _ (machine : Machine) (plans : List Plan) (ask : Ask) (rows : List TreeRo
         let s2 : g2.0 ≡ kept ask.sheet (kept_of ask) = sym (numbered-in plans (suc (length x.choices)) f.to.0 g2.0 g2.1) ∙ other.to in
         ends-once xs ys e f apart in' (same-number table e.to.0 f.to.0 (kept ask.sheet (kept_of ask)) is.is_table.differ (g1.1 ∙ ap (λ k. Some k) s1) (g2.1 ∙ ap (λ k. Some k) s2))
 
-    -- all edges behind the stop are told
+    -- all edges behind the stop are named
     all-behind : (xs ys : List Edge) (e : Edge) (m z : ℕ) → All Edged (xs ++ e ∷ ys) → AreApart (ends_of (xs ++ e ∷ ys)) → tell machine plans causes e ≡ None → Leads m ys z → IsWhole machine plans ask limit alone causes m z ys
     all-behind xs ys e m z all apart untold leads =
         let behind = All-tail Edged e ys (All-split Edged xs (e ∷ ys) all).1 in

@@ -1,4 +1,4 @@
--- A stop's edge: it is the only one of which nothing is told, and a closed walk has it once.
+-- A stop's edge: it is the only one without a name, and a closed walk has it once.
 use Rattle.std.proofs.Common.{◌≡◌, ◌≢◌, ◌⊎◌, inl, inr, ℕ, zero, suc, ◌+◌, ◌<◌, true, List, [], ◌∷◌, ◌++◌, length, refl, sym, ◌∙◌, subst, arith, AllPairs, Contains, Some}
 use Rattle.std.specs.Prelude.{ℤ, pos, ◌+ℤ◌, slice_get}
 use Rattle.std.proofs.lemmas.Int.{ints}

@@ -1,4 +1,4 @@
--- Hops that are told, one edge after another.
+-- Hops that are named, one edge after another.
 use Rattle.std.proofs.Common.{◌≡◌, ℕ, zero, suc, ◌+◌, ◌<◌, ◌≤◌, ◌-◌, get_or, length-drop, List, [], ◌∷◌, ◌++◌, length, drop, take, refl, sym, ◌∙◌, ap, subst, arith, All, Option, Some, None}
 use Rattle.std.specs.Prelude.{slice_get}
 use Rattle.std.proofs.lemmas.List.{length-take-le}
@@ -18,7 +18,7 @@ take-one (y ∷ xs) zero x e = let same : y ≡ x = cc in ap (λ z. z ∷ []) sa
 take-one {X} (y ∷ xs) (suc n) x e = let i : suc n + 1 ≡ suc (n + 1) = omega arith in let P : ℕ → Type 0 = λ m. take m (y ∷ xs) ≡ y ∷ (take n xs ++ x ∷ []) in subst P (sym i) (ap (λ z. y ∷ z) (take-one xs n x e))
 
 module _ (f : Edge → Option TreeHop) (all : List Edge) (at : ℕ) (e : Edge) (there : slice_get all at ≡ Some e) where
-  -- nothing is told of the next
+  -- the next has no name
   pub put-none : (old hops : List TreeHop) → None ≡ f e → hops ++ told_until f (drop at all) ≡ old → hops ++ [] ≡ old
   put-none old hops t so =
       let rest = drop (at + 1) all in
@@ -33,7 +33,7 @@ get-at [] i d below = absurd (omega (arith, below))
 get-at (x ∷ xs) zero d below = refl
 get-at (x ∷ xs) (suc i) d below = get-at xs i d (omega (arith, below))
 
--- no more is told than there are edges
+-- no more are named than there are edges
 pub told-few : (f : Edge → Option TreeHop) (es : List Edge) → length (told_until f es) ≤ length es
 told-few f [] = omega arith
 told-few f (e ∷ es) = go (f e) (told-few f es) where

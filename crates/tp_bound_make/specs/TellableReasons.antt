@@ -59,7 +59,7 @@ IsKnownWhy machine WhyLine = Unit {0}
 IsKnownWhy machine WhyStop = Unit {0}
 IsKnownWhy machine WhyLimit = Unit {0}
 
--- an edge can be told, or is a stop or a limit: its resource is known, or it leads to a point that has its own name
+-- an edge can be named, or is a stop or a limit: its resource is known, or it leads to a point that has its own name
 abbrev pub CanTell : Machine → List Plan → Option PointId → PointId → HopKind → Type 0
 CanTell machine plans last to forward = named_point plans last to ≡ spot_name plans (numbered plans to.0)
 CanTell machine plans last to back = named_point plans last to ≡ spot_name plans (numbered plans to.0)
@@ -68,7 +68,7 @@ CanTell machine plans last to (order resource before after) = resource < length 
 CanTell machine plans last to stop = Unit {0}
 CanTell machine plans last to limit = Unit {0}
 
--- hops that are told, up to the first edge of which nothing is told
+-- hops that are named, up to the first edge without a name
 abbrev pub told_then : Option TreeHop → List TreeHop → List TreeHop
 told_then None more = []
 told_then (Some h) more = h ∷ more
@@ -80,7 +80,7 @@ told_until f (e ∷ es) = told_then (f e) (told_until f es)
 abbrev pub IsTold : (Edge → Option TreeHop) → Edge → Type 0
 IsTold f e = (h : TreeHop) × (f e ≡ Some h)
 
--- the first edge of which nothing is told
+-- the first edge without a name
 pub record IsFirstUntold (f : Edge → Option TreeHop) (edges : List Edge) (at : ℕ) : Type 0 where
   pub edge : Edge
   pub within : at < length edges
@@ -100,7 +100,7 @@ pub record IsTellable (machine : Machine) (plans : List Plan) (causes : List Edg
   pub can : CanTell machine plans last e.to (kind_of plans (slice_get causes e.tag))
 
 module _ (machine : Machine) (plans : List Plan) (causes : List EdgeCause) (last : Option PointId) where
-  -- all edges of a circle are told, and their loop is the close
+  -- all edges of a circle are named, and their loop is the close
   pub record IsLoopOf (edges : List Edge) (close : Close) : Type 0 where
     pub all : All (IsTold (tell machine plans causes)) edges
     pub edge : Edge
@@ -109,7 +109,7 @@ module _ (machine : Machine) (plans : List Plan) (causes : List EdgeCause) (last
     pub named : IsNameOf plans last edge.from first
     pub is : close ≡ LoopClose first (told_until (tell machine plans causes) edges)
 
-  -- the close is the chain round from the end of the first edge of which nothing is told
+  -- the close is the chain round from the end of the first edge without a name
   pub record IsCutOf (edges : List Edge) (close : Close) : Type 0 where
     pub at : ℕ
     pub cut : IsFirstUntold (tell machine plans causes) edges at
@@ -127,7 +127,7 @@ module _ (machine : Machine) (plans : List Plan) (causes : List EdgeCause) (last
   IsCloseOf (Chain first edges) close = IsChainOf first edges.now close
   IsCloseOf (Circle edges) close = IsLoopOf edges.now close ⊎ IsCutOf edges.now close
 
--- what is kept of the last refusal is of this net, all of whose edges can be told, or are stops or limits
+-- what is kept of the last refusal is of this net, all of whose edges can be named, or are stops or limits
 pub record IsTellableReason {N : Type 0} (refutes : N → Net → Type 0) (machine : Machine) (b : BoardValue N) : Type 0 where
   pub net : Net
   pub shown : IsShown refutes b.net net

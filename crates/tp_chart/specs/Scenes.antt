@@ -121,7 +121,7 @@ abbrev pub is_past : Option ℕ → Item → Bool
 is_past (Some last) (Event event) = moves_past last event
 is_past _ _ = false
 
--- what is told by the lines before the first event that moves the clock beyond the moment, or by all lines
+-- what is reported by the lines before the first event that moves the clock beyond the moment, or by all lines
 abbrev pub sight_from : Machine → Option ℕ → Sight → List Item → Sight
 sight_from machine until s [] = s
 sight_from machine until s (item ∷ items) = if is_past until item then s else sight_from machine until (tell machine item s) items

@@ -127,7 +127,7 @@ module _ (own firsts : Members) (p : List ℕ) (a : Data) where
     unfolding action_of
     same_flip = ap truth_in (as_it_is (codes "flip") refl refl refl refl refl)
 
--- where nothing is told apart, an action leads from the one place to itself
+-- where no side counts, an action leads from the one place to itself
 pub work_from : (a : Data) → (work_of a).from ≡ record { 0 = 0 }
 unfolding action_of
 work_from a = refl

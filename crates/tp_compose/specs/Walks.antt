@@ -31,7 +31,7 @@ IsJoined r e f = Any (λ j. map text_of (elements j) ≡ e ∷ f ∷ []) (joins 
 abbrev pub IsOnePlace : Members → List ℕ → List ℕ → Type 0
 IsOnePlace r e f = (e ≡ f) ⊎ (IsJoined r e f ⊎ IsJoined r f e)
 
--- all of a rack is one location here: what a pair does is told by the prints and the flip of its action alone
+-- all of a rack is one location here: what a pair does is known by the prints and the flip of its action alone
 abbrev pub anywhere : LocId
 anywhere = record { 0 = 0 }
 

@@ -1,4 +1,4 @@
--- Of an answer that moved no other plan nothing is told but the answer.
+-- Of an answer that moved no other plan nothing is reported but the answer.
 use Rattle.std.proofs.Common.{◌≡◌, ◌∙◌, List, [], ◌∷◌, ◌++◌, refl, ap, sym}
 use Rattle.std.proofs.lemmas.List.{append-nil}
 use Rattle.std.proofs.lemmas.Slice.Eq.{bytes_eq-Decides}
@@ -16,7 +16,7 @@ none-moved : (plans : List Plan) → moves plans plans ≡ []
 none-moved [] = refl
 none-moved (p ∷ plans) = rw ((bytes_eq-Decides p.points p.points).1 refl) (none-moved plans)
 
--- where the other plans are the same, what is told of the answer alone is all that is told
+-- where the other plans are the same, what is reported of the answer alone is all that is reported
 pub alone-is : (machine : Machine) (plans after : List Plan) (ask : Ask) (reply : Reply) → without ask.sheet after ≡ without ask.sheet plans → told_alone machine ask reply after ≡ told_of_reply machine plans ask reply after
 alone-is machine plans after ask Planned same =
     let planned = told_of_planned machine (kept_of ask) (plan_of ask.sheet after) in

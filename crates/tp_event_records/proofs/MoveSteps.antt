@@ -38,7 +38,7 @@ had plans place points at = go (slice_get plans place) refl (sym (slice_get-map 
   go None e f = absurd (cc)
   go (Some p) e f = (p, e, cc)
 
--- one more plan is told of, beside the points that it had
+-- one more plan is reported of, beside the points that it had
 pub tells-one : (told told' : List Record) (plans : List Plan) (place : ℕ) (points : List ℕ) (asked : Option SheetId) (after : List Plan) (at : ℕ) (q : Plan) (all : List Record)
     → slice_get (points_of plans) place ≡ Some points → slice_get after at ≡ Some q → is_of asked q ≡ false → told' ≡ told ++ told_of_move (with_points points q) q
     → told ++ moves (drop place plans) (others asked (drop at after)) ≡ all

@@ -36,7 +36,7 @@ abbrev pub others : Option SheetId → List Plan → List Plan
 others None plans = plans
 others (Some copy) plans = without copy plans
 
--- what is told of an answer but for the plans that moved
+-- what is reported of an answer but for the plans that moved
 abbrev pub told_alone : Machine → Ask → Reply → List Plan → List Record
 told_alone machine ask Planned plans = told_of_planned machine (kept_of ask) (plan_of ask.sheet plans)
 told_alone machine ask Never plans = TellsNever (label_of_asked ask) (goal_name machine ask.goal) ∷ []

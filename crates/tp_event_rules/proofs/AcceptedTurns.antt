@@ -1,4 +1,4 @@
--- No accepted event is told refused.
+-- No accepted event is reported refused.
 use Rattle.std.proofs.Common.{◌≡◌, inl, inr, ℕ, ◌+◌, Bool, true, false, cond, ap, arith, Contains, List, [], ◌∷◌, refl, sym, subst, Option, Some, None}
 use Rattle.std.specs.Bool.{MatchBool}
 use Rattle.std.specs.Option.{MatchOption}

@@ -1,4 +1,4 @@
--- What the phase of asks does with the first copy that waits, where it is not passed over: it is told full, or it is asked.
+-- What the phase of asks does with the first copy that waits, where it is not passed over: it is reported full, or it is asked.
 use Rattle.std.proofs.Common.{◌≡◌, ℕ, List, ◌∷◌, ◌++◌}
 use Rattle.tp_machine.specs.declared.machine.Machine.{Machine}
 use Rattle.tp_jobs.specs.Backlogs.{tray_of}

@@ -1,4 +1,4 @@
--- As many copies are live as may be: none is asked, and each line is told so once.
+-- As many copies are live as may be: none is asked, and each line is reported full once.
 use Rattle.std.proofs.Common.{◌≡◌, ℕ, true, false, [], ◌∷◌, refl, codes}
 use Rattle.std.specs.Prelude.{replicate}
 use Rattle.tp_schedule.specs.declared.records.Record.TheVariants.{FullUp}

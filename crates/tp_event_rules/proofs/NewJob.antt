@@ -32,7 +32,7 @@ use Rattle.tp_event_rules.proofs.FirstCopies.{IsFirstCopy, All-first_copies, All
 use Rattle.tp_schedule.proofs.Pairs.{AllPairs-nil, AllPairs-cons, AllPairs-append, AllPairs-append_right}
 use Rattle.tp_event_rules.proofs.ListFacts.{AllPairs-append_left, AllPairs-append_across, AllPairs-map_list, All-both}
 
--- the jobs that came before are told as before
+-- the jobs that came before are reported as before
 pub known-within : (jobs : List Job) (copy : SheetId) → is_known jobs copy ≡ true → copy.job < length jobs
 known-within jobs copy e = grind (arith, nat_tests)
 

@@ -13,7 +13,7 @@ use Rattle.tp_event_rules.proofs.Replay.{play, turn_played}
 pub bad_line : play duo Bad planned_one [] ≡ turn_played (Refused Syntax ∷ []) planned_one
 bad_line = refl
 
--- all four causes hold of this job: the tray is told
+-- all four causes hold of this job: the tray is reported
 pub unknown_tray : play duo (NewJob (codes "j1") (codes "x") (codes "glossy") (group 4097 ∷ [])) planned_one []
     ≡ turn_played (Refused (NoTray (codes "x")) ∷ []) planned_one
 unknown_tray = refl

@@ -69,7 +69,7 @@ chosen false false s [] over told asked = played false s []
 chosen false false s (settles plans ∷ left) over told asked = played false s left
 chosen false false s (answers reply plans ∷ left) over told asked = asked reply plans left
 
--- the phase of asks, by what follows a copy that is told full, and one that is answered
+-- the phase of asks, by what follows a copy that is reported full, and one that is answered
 abbrev pub play_asks : Machine → List WaitingCopy → List ℕ → SessionState → List Given → Played
 play_asks machine [] passed s left = played true s left
 play_asks machine (w ∷ ws) passed s left = chosen (is_passed_over s passed w) (is_full machine s) s left

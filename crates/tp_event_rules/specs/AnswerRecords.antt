@@ -1,4 +1,4 @@
--- What is told of an answer to an ask, and of points that moved.
+-- What is reported of an answer to an ask, and of points that moved.
 use Rattle.std.specs.Prelude.{ℕ, List, [], ◌∷◌, ◌++◌, map, drop, Option, Some, None, if◌then◌else◌}
 use Rattle.std.specs.Str.{bytes_eq}
 use Rattle.tp_machine.specs.declared.machine.Machine.{Machine}

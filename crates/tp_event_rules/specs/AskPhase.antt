@@ -56,7 +56,7 @@ state_after_reply s w (Spent bound) plans = s
 
 module _ {P : Type 0} (planner_steps : PlannerSteps P) (machine : Machine) where
   -- the copies are taken in turn; a copy whose line was refused before is passed over; one that finds too many copies
-  -- live is told full; any other is asked
+  -- live is reported full; any other is asked
   abbrev pub AsksInTurn : List WaitingCopy → List ℕ → SessionState → P → List Record → SessionState → P → Type 0
   AsksInTurn [] passed s planner records s' planner' = (records ≡ []) × (s' ≡ s) × (planner' ≡ planner)
   AsksInTurn (w ∷ waiting) passed s planner records s' planner' =

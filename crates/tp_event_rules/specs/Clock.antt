@@ -13,7 +13,7 @@ use Rattle.tp_event_rules.specs.States.{SessionState, Outcome}
 use Rattle.tp_event_rules.specs.Labels.{label, location_name, action_name, end_location}
 use Rattle.tp_event_rules.specs.Moments.{due_until, release_until}
 
--- what is told, with its moment
+-- what is reported, with its moment
 pub record Told : Type 0 where
   pub at : ℕ
   pub tell : Tell
@@ -36,7 +36,7 @@ delivery machine p = record { at = end_of_plan p; tell = TellsDone p.sheet (end_
 abbrev pub deliveries : Machine → ℕ → ℕ → Plan → List Told
 deliveries machine now to p = if is_done_between now to p then delivery machine p ∷ [] else []
 
--- by moment; what is told at one moment keeps its order
+-- by moment; what is reported at one moment keeps its order
 abbrev pub put_told : Told → List Told → List Told
 put_told t [] = t ∷ []
 put_told t (u ∷ us) = if nat_le t.at u.at then t ∷ u ∷ us else (u ∷ put_told t us)

@@ -33,7 +33,7 @@ fate_in_break s job p =
     (if is_unstarted s.now p then fates.dropped else
     (if is_on_its_way s.now p && not (is_entering s.now p) then fates.purged else fates.stays))
 
--- what is told of a copy, for an order by copies
+-- what is reported of a copy, for an order by copies
 pub record Notice : Type 0 where
   pub sheet : SheetId
   pub records : List Record

@@ -1,4 +1,4 @@
--- What befalls the copies when a module goes out: what is told of a plan, what is left of it, and what waits.
+-- What befalls the copies when a module goes out: what is reported of a plan, what is left of it, and what waits.
 use Rattle.std.specs.Prelude.{ℕ, Bool, true, false, ◌||◌, List, [], ◌∷◌, ◌++◌, map, filter, flat_map}
 use Rattle.tp_schedule.specs.declared.parts.Goal.TheVariants.{Purge as ToPurge}
 use Rattle.tp_schedule.specs.declared.parts.Plan.{Plan}
@@ -27,7 +27,7 @@ pub data Fate : Type 0 where
 abbrev pub recalls : List Job → ℕ → Plan → List Record
 recalls jobs now p = map (λ run. Recall (label jobs p.sheet) run.number) (recalled now p)
 
--- what is told of the copy
+-- what is reported of the copy
 abbrev pub told_of : List Job → ℕ → Plan → Fate → List Record
 told_of jobs now p stays = []
 told_of jobs now p lost = Lost (label jobs p.sheet) ∷ recalls jobs now p
@@ -79,7 +79,7 @@ is_loss purged = false
 is_loss replaced = false
 is_loss dropped = false
 
--- what is told where each planned copy has its fate
+-- what is reported where each planned copy has its fate
 abbrev pub told_by : (Plan → Fate) → SessionState → List Record
 told_by fate s = flat_map (λ p. told_of s.jobs s.now p (fate p)) s.plans
 

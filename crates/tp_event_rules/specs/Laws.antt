@@ -27,7 +27,7 @@ use Rattle.tp_event_rules.specs.Planners.{PlannerSteps, AnswersInTurn}
 use Rattle.tp_event_rules.specs.Refusals.{job_refusal, refusal}
 use Rattle.tp_event_rules.specs.Turns.{Turn, with_job, with_on}
 
--- one answer more at the end of the loop's list: the state after it, and what is told
+-- one answer more at the end of the loop's list: the state after it, and what is reported
 abbrev pub LoopStateGoesOn : Type 0
 LoopStateGoesOn = (machine : Machine) (answers : List Answer) (a : Answer) (s : SessionState)
     → (after_answers machine (answers ++ a ∷ []) s).state ≡ (after_one machine (after_answers machine answers s).state a).state
@@ -149,7 +149,7 @@ module _ {P : Type 0} (planner_steps : PlannerSteps P) (machine : Machine) where
       → refusal machine s event ≡ Some cause → Turn planner_steps machine event s planner records s' planner'
       → (records ≡ Refused cause ∷ []) × (s' ≡ s) × (planner' ≡ planner)
 
-  -- a refusal is told of a refused event alone, with its cause
+  -- a refusal is reported of a refused event alone, with its cause
   abbrev pub RefusalsAreTold : Type 0
   RefusalsAreTold = (event : Event) (s : SessionState) (planner : P) (records : List Record) (s' : SessionState) (planner' : P) (cause : Cause)
       → Turn planner_steps machine event s planner records s' planner' → Contains records (Refused cause) → refusal machine s event ≡ Some cause

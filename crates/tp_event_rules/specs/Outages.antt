@@ -42,7 +42,7 @@ displaced_by p fates.dropped = []
 abbrev pub displaced : Machine → ℕ → Bool → SessionState → List Displaced
 displaced machine m jam s = flat_map (λ p. displaced_by p (fate_in_outage machine m jam s p)) s.plans
 
--- the lost copies are told first, then the others
+-- the lost copies are reported first, then the others
 abbrev pub told_in_outage : Machine → ℕ → Bool → SessionState → List Record
 told_in_outage machine m jam s =
     told_by (fate_of_running machine m jam s) s ++ told_by (fate_unless_lost machine m jam s) s

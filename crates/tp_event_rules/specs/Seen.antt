@@ -28,7 +28,7 @@ state_seen now plans backlog outs = record {
   refills = no_refills;
 }
 
--- the next copy's number can be told
+-- the next copy's number can be written
 abbrev pub HasNextCopy : SheetId → Type 0
 HasNextCopy copy = copy.copy + 1 < 2 ^ 32
 

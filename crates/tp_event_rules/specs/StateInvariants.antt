@@ -96,7 +96,7 @@ pub record KeepsLines (s : SessionState) : Type 0 where
 abbrev pub is_copy_of : ℕ → ℕ → SheetId → Bool
 is_copy_of job number copy = (copy.job == job) && (copy.number == number)
 
--- how many sheets each job has, in the order of arrival, is told beside the state
+-- how many sheets each job has, in the order of arrival, stands beside the state
 abbrev pub total_of : List ℕ → ℕ → ℕ
 total_of totals job = slice_index totals job
 

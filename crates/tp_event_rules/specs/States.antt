@@ -26,7 +26,7 @@ none_out = record { 0 = 0 }
 abbrev pub empty_state : SessionState
 empty_state = record { now = 0; plans = []; lost = []; jobs = []; waiting = []; outs = none_out; refills = no_refills }
 
--- what is told, and the state after it
+-- what is reported, and the state after it
 pub record Outcome : Type 0 where
   pub records : List Record
   pub state : SessionState

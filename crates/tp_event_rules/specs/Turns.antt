@@ -58,7 +58,7 @@ module _ {P : Type 0} (planner_steps : PlannerSteps P) (machine : Machine) where
     pub asks : Asks planner_steps machine between mid rest s' planner'
     pub told : records ≡ first ++ rest
 
-  -- the turn of an event: one that is refused is told so and changes nothing
+  -- the turn of an event: one that is refused is reported so and changes nothing
   abbrev pub Turn : Event → SessionState → P → List Record → SessionState → P → Type 0
   Turn event s planner records s' planner' = MatchOption (refusal machine s event)
       (Accepts event s planner records s' planner')

@@ -52,7 +52,7 @@ module _ {P : Type 0} (steps : PlannerSteps P) (machine : Machine) (event : Even
   abbrev NotesHalt : P → Type 0
   NotesHalt p' = (records : List Record) × (notes' ≡ notes ++ records) × StopsTurn steps machine event s p records p'
 
-  -- a refused event is told so
+  -- a refused event is reported so
   pub refused-event : (o : Option Cause) → ((cause : Cause) → o ≡ Some cause → refusal machine s event ≡ Some cause) → IsSomeAnd o (λ cause. notes' ≡ notes ++ Refused cause ∷ [])
       → (s' : SessionState) → s' ≡ s → NotesWhole s' p
   refused-event None is none s' same = absurd none

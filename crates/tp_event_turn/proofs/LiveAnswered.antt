@@ -1,4 +1,4 @@
--- A right answer on the live part, joined with what is past, is right on the whole schedule, and the same is told.
+-- A right answer on the live part, joined with what is past, is right on the whole schedule, and the same is reported.
 use Rattle.std.proofs.Common.{◌≡◌, ℕ, Bool, true, false, not, List, ◌++◌, map, filter, refl, sym, ap, ◌∙◌, Contains, subst}
 use Rattle.std.proofs.lemmas.Bool.{not-true, not_from_false}
 use Rattle.tp_machine.specs.declared.machine.Machine.{Machine}

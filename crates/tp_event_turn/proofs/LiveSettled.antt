@@ -1,4 +1,4 @@
--- Times that are settled on the live part, joined with what is past, are settled on the whole schedule, and the same is told.
+-- Times that are settled on the live part, joined with what is past, are settled on the whole schedule, and the same is reported.
 use Rattle.std.proofs.Common.{◌≡◌, ℕ, Bool, false, not, List, refl, sym, ap, ◌∙◌, Contains, subst}
 use Rattle.std.proofs.lemmas.Bool.{not-true}
 use Rattle.std.proofs.lemmas.List.Elements.{All-filter}

@@ -1,4 +1,4 @@
--- A state less some copies: what befalls the others, and what is told of it.
+-- A state less some copies: what befalls the others, and what is reported of it.
 use Rattle.std.proofs.Common.{◌≡◌, Bool, true, false, cond, ◌||◌, not, List, [], ◌∷◌, ◌++◌, map, filter, flat_map, refl, sym, ap, ◌∙◌, Contains}
 use Rattle.std.specs.List.{list_any}
 use Rattle.std.proofs.lemmas.List.Elements.{filter-append}
@@ -15,7 +15,7 @@ use Rattle.tp_event_rules.specs.Fates.{Fate, befall, is_loss, left_by, left_of, 
 use Rattle.tp_event_rules.specs.Lines.{is_lost, put_all_waiting}
 use Rattle.tp_event_rules.specs.States.{SessionState}
 
--- what passes a test may be told otherwise, what fails it tells nothing
+-- what passes a test may be reported otherwise, what fails it tells nothing
 pub flat_map-part : {X Y : Type 0} (q : X → Bool) (f f' : X → List Y) (xs : List X) → ((x : X) → Contains xs x → q x ≡ false → f x ≡ []) → ((x : X) → Contains xs x → q x ≡ true → f' x ≡ f x)
     → flat_map f' (filter q xs) ≡ flat_map f xs
 flat_map-part q f f' [] none same = refl
@@ -62,7 +62,7 @@ module _ (machine : Machine) (g : SheetId → Bool) (first : List Plan) where
   not-false' false e = absurd (cc)
 
   module _ (s : SessionState) (fate' fate : Plan → Fate) (f : SameFates s fate' fate) where
-    -- what is told of each plan, and what waits for it
+    -- what is reported of each plan, and what waits for it
     pub by-fates : {Y : Type 0} (h : Plan → Fate → List Y) → ((p : Plan) → h p fates.stays ≡ []) → flat_map (λ p. h p (fate' p)) (less g s.plans) ≡ flat_map (λ p. h p (fate p)) s.plans
     by-fates h none =
         flat_map-part (λ p. not (g p.sheet)) (λ p. h p (fate p)) (λ p. h p (fate' p)) s.plans (λ p in' e. ap (h p) (f.stays p in' (not-false' (g p.sheet) e)) ∙ none p)

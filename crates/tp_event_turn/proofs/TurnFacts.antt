@@ -1,4 +1,4 @@
--- What a copy's turn gives: it is told full, or it is asked.
+-- What a copy's turn gives: it is reported full, or it is asked.
 use Rattle.std.proofs.Common.{◌≡◌, ℕ, ◌<◌, Bool, true, false, List, [], ◌∷◌, ◌++◌, slice_get, Option, Some, None, IsSome, refl, sym, ap, ◌∙◌, subst, arith}
 use Rattle.std.specs.Bool.{MatchBool}
 use Rattle.std.specs.Prelude.{IsSomeAnd}

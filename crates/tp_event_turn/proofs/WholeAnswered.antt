@@ -1,4 +1,4 @@
--- A right answer on the whole schedule is right on its live part, and the same is told.
+-- A right answer on the whole schedule is right on its live part, and the same is reported.
 use Rattle.std.proofs.Common.{◌≡◌, ℕ, ◌<◌, Bool, true, not, nat_lt, List, refl, sym, ap, ◌∙◌, arith, Contains, subst}
 use Rattle.std.proofs.lemmas.Bool.{and_parts}
 use Rattle.std.proofs.lemmas.Bool.Decides.{nat_tests}

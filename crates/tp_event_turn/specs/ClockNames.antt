@@ -1,4 +1,4 @@
--- What may be told of a move of the clock.
+-- What may be reported of a move of the clock.
 use Rattle.std.specs.Prelude.{◌<◌, List, length}
 use Rattle.tp_machine.specs.Machines.{IsLocation}
 use Rattle.tp_machine.specs.declared.machine.Machine.{Machine}

@@ -22,7 +22,7 @@ module _ {P : Type 0} (planner_steps : PlannerSteps P) (machine : Machine) where
     pub asks : Asks planner_steps machine (live_part machine (clock_move machine to s).state) planner rest s' planner'
     pub told : records ≡ (clock_move machine to s).records ++ rest
 
-  -- a move of the clock that is refused is told so and changes nothing
+  -- a move of the clock that is refused is reported so and changes nothing
   abbrev pub ClockTurn : ℕ → SessionState → P → List Record → SessionState → P → Type 0
   ClockTurn to s planner records s' planner' = MatchOption (clock_refusal s.now to)
       (MovesClock to s planner records s' planner')

@@ -59,7 +59,7 @@ abbrev pub LiveAnswersHold : Type 0
 LiveAnswersHold = (nodes : ℕ) (machine : Machine) (plans : List Plan) (ask : Ask) (reply : Reply) (live : List Plan) → CanAskLive machine plans ask
     → IsAnswer (spent_of nodes) machine (live_at machine ask.now plans) ask reply live → IsAnswerOnWhole (spent_of nodes) machine plans ask reply live
 
--- times that are settled on the live part are settled on the whole schedule as well, and the same moves are told
+-- times that are settled on the live part are settled on the whole schedule as well, and the same moves are reported
 pub record IsSettledOnWhole (machine : Machine) (now : ℕ) (plans live : List Plan) : Type 0 where
   pub whole : List Plan
   pub settles : IsSettled machine now plans whole
@@ -78,7 +78,7 @@ abbrev pub SpentPassesBack : (Machine → List Plan → Ask → ℕ → Type 0) 
 SpentPassesBack on_live on_whole machine = (plans : List Plan) (ask : Ask) (bound : ℕ) → CanAskLive machine plans ask
     → on_whole machine plans ask bound → on_live machine (live_at machine ask.now plans) ask bound
 
--- the answer on the whole schedule is one on its live part: what is past stays, and the same is told
+-- the answer on the whole schedule is one on its live part: what is past stays, and the same is reported
 pub record IsAnswerOnLive (spent : Machine → List Plan → Ask → ℕ → Type 0) (machine : Machine) (plans : List Plan) (ask : Ask) (reply : Reply) (whole : List Plan) : Type 0 where
   pub answer : IsAnswer spent machine (live_at machine ask.now plans) ask reply (live_at machine ask.now whole)
   pub past_part : past_at machine ask.now whole ≡ past_at machine ask.now plans
@@ -96,7 +96,7 @@ WholeAnswersHold = (nodes : ℕ) (machine : Machine) (plans : List Plan) (ask : 
 abbrev pub WholeBudgetsHold : Type 0
 WholeBudgetsHold = (nodes : ℕ) (machine : Machine) → SpentPassesBack (spent_of nodes) (spent_of nodes) machine
 
--- times that are settled on the whole schedule are settled on its live part, and the same moves are told
+-- times that are settled on the whole schedule are settled on its live part, and the same moves are reported
 pub record IsSettledOnLive (machine : Machine) (now : ℕ) (plans whole : List Plan) : Type 0 where
   pub settles : IsSettled machine now (live_at machine now plans) (live_at machine now whole)
   pub past_part : past_at machine now whole ≡ past_at machine now plans

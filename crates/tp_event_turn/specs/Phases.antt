@@ -22,7 +22,7 @@ is_planned Never = false
 is_planned (Spent bound) = false
 
 module _ {P : Type 0} (planner_steps : PlannerSteps P) (machine : Machine) where
-  -- the copy's turn: where too many copies are live it is told full; else it is asked, and where it is planned it waits
+  -- the copy's turn: where too many copies are live it is reported full; else it is asked, and where it is planned it waits
   -- no more
   abbrev pub IsTried : WaitingCopy → SessionState → P → List Record → Bool → SessionState → P → Type 0
   IsTried w s planner records planned s' planner' = MatchBool (is_full machine s)

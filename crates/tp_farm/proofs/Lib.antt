@@ -1,7 +1,7 @@
 pub mod WordFacts
 pub mod AddressFacts
 pub mod NumberedFacts
-pub mod SendingFacts
+pub mod SentEvents
 pub mod MachineParts
 pub mod Gathered
 pub mod ListFacts

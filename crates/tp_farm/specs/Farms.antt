@@ -1,4 +1,4 @@
--- A farm of machines: where the event of a line is sent, what is told of it, and what each machine is sent.
+-- A farm of machines: where the event of a line is sent, what is reported of it, and what each machine is sent.
 use Rattle.std.specs.Prelude.{◌≡◌, ℕ, ◌+◌, ◌==◌, Bool, true, List, [], ◌∷◌, ◌++◌, length, map, filter, slice_get, Option, Some, if◌then◌else◌}
 use Rattle.std.specs.Bool.{MatchBool}
 use Rattle.std.specs.List.{AllZip}
@@ -66,10 +66,10 @@ module _ {S : Type 0} (probes : S → Event → Probe → Type 0) where
       (number : ℕ) × (whom ≡ One number) × GoesTo farm name (Job name tray media groups) number homes'
   IsSent farm event named whom homes' = (whom ≡ One named) × (homes' ≡ farm.homes)
 
--- ---- what is told of it
+-- ---- what is reported of it
 
 module _ {S : Type 0} (tells : S → Event → List ℕ → S → Type 0) where
-  -- a machine that an event is sent to does its step, and its text is told with its number before each line. Any other stays
+  -- a machine that an event is sent to does its step, and its text is reported with its number before each line. Any other stays
   abbrev pub TellsAt : Whom → Event → ℕ → S → List ℕ → S → Type 0
   TellsAt whom event number s text s' =
       MatchBool (is_for whom number) ((told : List ℕ) × tells s event told s' × (text ≡ numbered number told)) ((text ≡ []) × (s' ≡ s))

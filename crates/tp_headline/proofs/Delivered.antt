@@ -104,7 +104,7 @@ module _ (machine : Machine) (totals : List ℕ) (s : SessionState) (keeps : Kee
       ]
 
   module _ (all : List Arrival) (first : AreFirst machine totals s.jobs all) (apart : AreNamedApart all) where
-    -- so are their sheets, by the names that are told
+    -- so are their sheets, by the names that are reported
     pub told-earlier : (p q : Plan) → Contains s.plans p → Contains s.plans q → is_tray_plan p ≡ true → is_tray_plan q ≡ true
         → is_before p.sheet q.sheet ≡ true → is_earlier all (sheet_ref (label s.jobs p.sheet)) (sheet_ref (label s.jobs q.sheet)) ≡ true
     told-earlier p q in' in'' to to' before =

@@ -41,7 +41,7 @@ use Rattle.tp_event_rules.proofs.AskSteps.{AsksFirst, TellsFull}
 use Rattle.tp_headline.specs.Given.{Answers, Given, given_answers, is_answer, told_by, told_of_given}
 use Rattle.tp_headline.proofs.Plain.{none-answered, plain-after, plain-moves, plain-outage}
 
--- what is told of an answer, and of a move of the clock
+-- what is reported of an answer, and of a move of the clock
 told-reply : (machine : Machine) (plans : List Plan) (ask : Ask) (reply : Reply) (after : List Plan) → filter is_answer (told_of_reply machine plans ask reply after) ≡ told_of_given machine ask reply after
 told-reply machine plans ask Planned after =
     filter-append is_answer (told_of_planned machine (kept_of ask) (plan_of ask.sheet after)) (moves (without ask.sheet plans) (without ask.sheet after))

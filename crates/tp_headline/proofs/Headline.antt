@@ -136,7 +136,7 @@ module _ {P : Type 0} (steps : PlannerSteps P) (machine : Machine) (spent : P �
   follows-begun totals totals' s first s' (quiet q same) keeps all more before apart e f =
       subst (λ n. Follows machine n all (before ++ first) s') (sym same) (follows-quiet machine totals all before first s s' q f)
 
-  -- no accepted event is told refused
+  -- no accepted event is reported refused
   none-refused : (event : Event) (s : SessionState) (p : P) (records : List Record) (s' : SessionState) (p' : P) → refusal machine s event ≡ None → Turn steps machine event s p records s' p' → list_any is_refusal records ≡ false
   none-refused event s p records s' p' accepted turn = list_any_none is_refusal records (All-from_contains (λ r. is_refusal r ≡ false) records (λ r in'. go r in')) where
     go : (r : Record) → Contains records r → is_refusal r ≡ false

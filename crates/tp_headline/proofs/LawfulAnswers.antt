@@ -20,7 +20,7 @@ use Rattle.tp_headline.specs.Given.{Answers, Given, IsEarliestThere, IsNoneThere
 use Rattle.tp_headline.specs.Headline.{LawfulBudgetsAreSpent, LawfulNonesAreNone, LawfulPlansAreEarliest}
 use Rattle.tp_headline.proofs.GivenAnswers.{IsRightGiven, RunGives, run-gives}
 
--- of an answer at most one record is told
+-- of an answer at most one record is reported
 data IsOneAtMost : List Record → Type 0 where
   none : IsOneAtMost []
   one : (r : Record) → IsOneAtMost (r ∷ [])
@@ -33,7 +33,7 @@ told-one machine ask Planned after = go (plan_of ask.sheet after) where
 told-one machine ask Never after = one _
 told-one machine ask (Spent bound) after = one _
 
--- where a record that is told of answers comes from
+-- where a record that is reported of answers comes from
 record Splits (machine : Machine) (given : List Given) (xs : List Record) (r : Record) : Type 0 where
   first : List Given
   g : Given

@@ -1,4 +1,4 @@
--- What is told where a job breaks is what there is to tell, in the order of copies.
+-- What is reported where a job breaks is what there is to tell, in the order of copies.
 use Rattle.std.proofs.Common.{◌≡◌, ℕ, ◌⊎◌, inl, inr, Bool, true, false, cond, List, [], ◌∷◌, ◌++◌, filter, refl, All, AllPairs, Contains, IsPermutation, IsTrue, IsFalse}
 use Rattle.std.proofs.lemmas.List.Elements.{All-nil, All-cons, All-head, All-tail, All-weaker, All-filter, All-map}
 use Rattle.std.proofs.lemmas.List.Kept.{AllPairs-filter}

@@ -1,4 +1,4 @@
--- What is told by moments: who stands before whom.
+-- What is reported by moments: who stands before whom.
 use Rattle.std.proofs.Common.{◌≡◌, ◌<◌, ◌≤◌, ◌⊎◌, inl, inr, Bool, true, false, cond, List, [], ◌∷◌, ◌++◌, map, flat_map, refl, sym, ap, arith, All, AllPairs, Contains, subst, nat_le}
 use Rattle.std.proofs.lemmas.Bool.Decides.{nat_tests}
 use Rattle.std.proofs.lemmas.List.Concat.{flat_map-cons}
@@ -46,7 +46,7 @@ by_moment-to (u ∷ ts) t in' = elim (Contains-cons_cases u ts t in') [
 ]
 
 module _ (G : Told → Told → Type 0) where
-  -- two that are told, by their moments and otherwise by their order in the list
+  -- two that are reported, by their moments and otherwise by their order in the list
   abbrev pub Either : Told → Told → Type 0
   Either t u = (t.at ≤ u.at → G t u) × (u.at < t.at → G u t)
 
@@ -75,7 +75,7 @@ module _ (G : Told → Told → Type 0) where
   pairs-by_moment (t ∷ ts) pairs =
       pairs-put t (by_moment ts) (All-by_moment (Either t) ts (AllPairs-head Either t ts pairs)) (pairs-by_moment ts (AllPairs-tail Either t ts pairs))
 
-  -- what is told sooner stands before
+  -- what is reported sooner stands before
   pub stands-before : (xs : List Told) (t : Told) (ys : List Told) (u : Told) → AllPairs InTime (xs ++ t ∷ ys) → Contains (xs ++ t ∷ ys) u → u.at < t.at → Contains xs u
   stands-before [] t ys u pairs in' low = elim (Contains-cons_cases t ys u in') [
     | inl e ↦ absurd (let same : t.at ≡ u.at = ap (λ (x : Told). x.at) e in omega arith)

@@ -120,7 +120,7 @@ IsNoDelivery r = is_done r ≡ false
 abbrev pub AreNoDeliveries : List Record → Type 0
 AreNoDeliveries records = All IsNoDelivery records
 
--- names, trays and sheets of the jobs stay; a job that is broken was, or is told so; and the same copies are delivered
+-- names, trays and sheets of the jobs stay; a job that is broken was, or is reported so; and the same copies are delivered
 pub record IsQuiet (s s' : SessionState) (records : List Record) : Type 0 where
   pub now : s'.now ≡ s.now
   pub jobs : map unbroken s'.jobs ≡ map unbroken s.jobs

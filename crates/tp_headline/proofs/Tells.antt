@@ -76,7 +76,7 @@ between-done now to p whole low high =
 abbrev pub tolds : Machine → ℕ → ℕ → List Plan → List Told
 tolds machine now to plans = flat_map (deliveries machine now to) plans ++ flat_map (releases machine to) plans
 
--- a delivery that is told
+-- a delivery that is reported
 pub record IsToldOf (machine : Machine) (now to : ℕ) (plans : List Plan) (t : Told) : Type 0 where
   pub p : Plan
   pub there : Contains plans p
@@ -144,13 +144,13 @@ module _ (machine : Machine) (totals : List ℕ) (s : SessionState) (keeps : Kee
         is = location.1;
       }
 
-  -- and it is told to be received
+  -- and it is reported as received
   pub brings : (p : Plan) → Contains s.plans p → is_tray_plan p ≡ true → IsFor machine s.jobs tray p.sheet → Has (delivery machine p) (label s.jobs p.sheet)
   brings p in' to_tray for =
       let location : location_name machine (end_location machine p) ≡ tray = ap (location_name machine) (own-location machine s.jobs p (timed-at p in') to_tray (own-at p in')) ∙ for in
       rw ((bytes_eq-Decides (location_name machine (end_location machine p)) tray).1 location) (Contains-here (label s.jobs p.sheet) [])
 
-  -- where a copy that is told to be received comes from
+  -- where a copy that is reported as received comes from
   pub told-from : (t : Told) (c : SheetName) → Contains (tolds machine s.now to s.plans) t → Has t c → IsToldOf machine s.now to s.plans t
   told-from t c in' has = elim (told-cases machine s.now to s.plans t in') [
     | inr release ↦ absurd (release-none machine s.jobs tray t release.0 c release.1 has)
@@ -252,7 +252,7 @@ module _ (machine : Machine) (totals : List ℕ) (s : SessionState) (keeps : Kee
       flat_map-to (received_by tray) (clock_records machine s to) (record_of machine s.jobs (delivery machine p).tell) (label s.jobs p.sheet) r (brings p in' to_tray for)
 
   module _ (all : List Arrival) (first : AreFirst machine totals s.jobs all) (apart : AreNamedApart all) where
-    -- what is told before a delivery: each one of the tray that ended sooner
+    -- what is reported before a delivery: each one of the tray that ended sooner
     pub record IsDoneAfter (before : List Record) (copy : SheetName) : Type 0 where
       pub p : Plan
       pub there : Contains s.plans p

@@ -34,7 +34,7 @@ IsPermutation-by_moment (t ∷ ts) =
     IsPermutation-trans (t ∷ ts) (t ∷ by_moment ts) (put_told t (by_moment ts)) (IsPermutation-cons t ts (by_moment ts) (IsPermutation-by_moment ts))
     (IsPermutation-put_told t (by_moment ts))
 
--- what comes first is told before what has no sooner moment
+-- what comes first is reported before what has no sooner moment
 first-either : (t u : Told) → comes_first t.tell u.tell ≡ true → Either IsToldBefore t u
 first-either t u first = (λ low. go low (nat_lt t.at u.at) refl, λ low. inl low) where
   go : t.at ≤ u.at → (b : Bool) → nat_lt t.at u.at ≡ b → IsToldBefore t u
@@ -100,7 +100,7 @@ module _ (machine : Machine) (now to : ℕ) where
     of : run.sheet ≡ p.sheet
     is : t ≡ release_of machine run
 
-  -- and such is each that is told
+  -- and such is each that is reported
   release-from : (p : Plan) (t : Told) → Contains (releases machine to p) t → IsReleaseOf p t
   release-from p t in' =
       let due = due_until (to + machine.lead) p in

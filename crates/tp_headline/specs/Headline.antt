@@ -46,7 +46,7 @@ module _ {T : Type 0} (claims : TreeClaims T) (spent : Machine → List Plan →
       (lawful : IsLawful claims shown spent machine events log)
       → (resource tick : ℕ) → length (held machine lawful.last.plans resource tick) ≤ 1
 
-  -- each plan is told where the schedule after it is earliest and least
+  -- a plan is reported where the schedule after it is earliest and least
   abbrev pub LawfulPlansAreEarliest : Type 0
   LawfulPlansAreEarliest = (machine : Machine) (shown : Bool) (events : List Event) (log : List (Entry T))
       (lawful : IsLawful claims shown spent machine events log) (before after : List Record)
@@ -54,7 +54,7 @@ module _ {T : Type 0} (claims : TreeClaims T) (spent : Machine → List Plan →
       → records_of log ≡ before ++ TellsPlan copy place points acts ∷ after
       → IsEarliestThere spent machine log lawful.last before (TellsPlan copy place points acts)
 
-  -- each none is told where there is no alternative by the horizon
+  -- a none is reported where there is no alternative by the horizon
   abbrev pub LawfulNonesAreNone : Type 0
   LawfulNonesAreNone = (machine : Machine) (shown : Bool) (events : List Event) (log : List (Entry T))
       (lawful : IsLawful claims shown spent machine events log) (before after : List Record)
@@ -62,7 +62,7 @@ module _ {T : Type 0} (claims : TreeClaims T) (spent : Machine → List Plan →
       → records_of log ≡ before ++ TellsNever copy goal ∷ after
       → IsNoneThere spent machine log lawful.last before (TellsNever copy goal)
 
-  -- each budget is told where it is spent
+  -- a budget is reported where it is spent
   abbrev pub LawfulBudgetsAreSpent : Type 0
   LawfulBudgetsAreSpent = (machine : Machine) (shown : Bool) (events : List Event) (log : List (Entry T))
       (lawful : IsLawful claims shown spent machine events log) (before after : List Record)

@@ -1,4 +1,4 @@
--- In which order things are told: by moment as the clock moves, and by copy where a job breaks.
+-- In which order things are reported: by moment as the clock moves, and by copy where a job breaks.
 use Rattle.std.specs.Prelude.{◌≡◌, ◌<◌, ◌⊎◌, ℕ, Bool, true, false, ◌&&◌, ◌||◌, nat_lt, List, ◌∷◌, ◌++◌, map, flat_map, All, AllPairs, IsTrue, IsFalse, IsPermutation}
 use Rattle.tp_machine.specs.declared.machine.Machine.{Machine}
 use Rattle.tp_schedule.specs.Plans.{IsEarlier, is_before, is_same_copy}
@@ -13,7 +13,7 @@ use Rattle.tp_event_rules.specs.States.{SessionState}
 use Rattle.tp_event_rules.specs.declared.tell.Tell.{Tell}
 use Rattle.tp_event_rules.specs.declared.tell.Tell.TheVariants.{Done, Release}
 
--- of what is told of one moment, deliveries come before releases, then copies in their order, and a copy's actions by number
+-- of what is reported of one moment, deliveries come before releases, then copies in their order, and a copy's actions by number
 abbrev pub comes_first : Tell → Tell → Bool
 comes_first (Done copy place at) (Done other place' at') = is_before copy other
 comes_first (Done copy place at) (Release other number act start end) = true
@@ -29,7 +29,7 @@ IsToldBefore t u = (t.at < u.at) ⊎ ((t.at ≡ u.at) × IsTrue (comes_first t.t
 abbrev pub to_tell : Machine → ℕ → ℕ → List Plan → List Told
 to_tell machine now to plans = flat_map (deliveries machine now to) plans ++ flat_map (releases machine to) plans
 
--- all of it is told, and no more, in this order
+-- all of it is reported, and no more, in this order
 pub record AreToldInOrder (machine : Machine) (now to : ℕ) (plans : List Plan) (tells : List Tell) : Type 0 where
   pub timed : List Told
   pub told : map (λ t. t.tell) timed ≡ tells

@@ -74,7 +74,7 @@ feeds-more s mid s' line lines h k =
       few_events = λ few. k.few_events (let a = h.events in let b = h.sizes.events in omega (arith, a, b));
     }
 
--- where no text is told, all lines are taken
+-- where no text is reported, all lines are taken
 pub feeds-all : (lines : List (List ℕ)) (text : List ℕ) (s s' : LogState) → AnswersAll Answers s lines text s' → text ≡ [] → Feeds s lines s'
 feeds-all [] text s s' h none = subst (λ x. Feeds s [] x) (sym h.1) (feeds-none s)
 feeds-all (line ∷ lines) text s s' (told, (mid, (rest, one, others, same))) none = go told one (sym same ∙ none) (feeds-all lines rest mid s' others)

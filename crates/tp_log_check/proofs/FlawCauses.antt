@@ -40,7 +40,7 @@ module _ (c : CheckerValue) (p : Pending) (is : c.under ≡ Some (underway p)) (
   caused (NotLeast line given least) told why = reason-under (NotLeast line given least) told why
   caused (Tree line flaw) told why = reason-under (Tree line flaw) told why
 
--- nothing is wrong with the items that are told so far, where nothing is found, or what is found stands behind them
+-- nothing is wrong with the items that are reported so far, where nothing is found, or what is found stands behind them
 pub right-so-far : (c : CheckerValue) (p : Pending) → c.under ≡ Some (underway p) → (found : Option WrongItem) (items : List Item) → items ≡ p.items.items
     → IfSome found (IsDueOrStops c.machine c.state p.event p.items.items) → (IsNone found → TellWholeTurn c.machine c.state p.event p.items.items) → IfSome found (IsBehind items)
     → IsRightUnder c.machine c.state c.under

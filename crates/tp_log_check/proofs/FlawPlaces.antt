@@ -1,4 +1,4 @@
--- The lines on which flaws are told are those of the last event.
+-- The lines on which flaws are reported are those of the last event.
 use Rattle.std.proofs.Common.{◌≡◌, ℕ, ◌+◌, ◌<◌, ◌≤◌, ◌^◌, false, List, [], ◌∷◌, ◌++◌, All, Option, Some, None, length, refl, sym, ap, subst, ◌∙◌, arith}
 use Rattle.std.specs.Prelude.{IfSome, option_map}
 use Rattle.std.specs.List.{AllByRecursion}
@@ -125,7 +125,7 @@ module _ (machine : Machine) (state : SessionState) (events lines : ℕ) (counts
       let one : length (log_lines (entries.items_of p)) ≡ 1 + heights p.items.items = omega arith in
       omega (arith, all, both, one)
 
-  -- a flaw that is told behind its line lies in what is told of the last event
+  -- a flaw that is reported behind its line lies in what is reported of the last event
   pub in-last : (p : Pending) → IsPending p → (told : List LogLine) → HasTaken (value (Some (underway p))) told → (found : Flaw) → LiesBehind p.line (length told + 1) found → LiesInLast told found
   in-last p pending told h found lies = record {
     earlier = log_lines (items_of h.sections);
@@ -144,7 +144,7 @@ module _ (machine : Machine) (state : SessionState) (events lines : ℕ) (counts
       let here = lies (subst (λ n. n < 2 ^ 64) all fits) in
       in-last p pending told h found (subst (λ n. LiesBehind n (length told + 1) found) (same.line ∙ first) (subst (λ n. LiesBehind r.line n found) (sym all) here))
 
-  -- and the flaw is told on the line of the item
+  -- and the flaw is reported on the line of the item
   pub told-ended : (p q r : Pending) (told : List LogLine) → HasTaken (value (Some (underway p))) told → entries.items_of q ≡ closed (entries.items_of p) p.tree → q.line ≡ p.line → IsSame q r
       → length told + 1 < 2 ^ 64 → (found : Flaw) (stop : WrongItem) → (r.line + 1 + heights r.items.items < 2 ^ 64 → found ≡ flaw_at r.line r.items.items stop) → found ≡ flaw_at p.line q.items.items stop
   told-ended p q r told h ended first same fits found stop is =

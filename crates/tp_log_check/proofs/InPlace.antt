@@ -1,4 +1,4 @@
--- Where a turn over the planner that is told an event's items takes them all, they stand as those of its records and trees: each tree is in its
+-- Where a turn over the planner that is given an event's items takes them all, they stand as those of its records and trees: each tree is in its
 -- place.
 use Rattle.std.proofs.Common.{◌≡◌, Bool, true, false, cond, List, [], ◌∷◌, ◌++◌, length, refl, sym, ap, ◌∙◌, All, Option, Some, None, arith}
 use Rattle.std.specs.Prelude.{IsFalse, if◌then◌else◌}
@@ -104,7 +104,7 @@ same-items items others behind records =
     let front = same-front a.asides b.asides (records_in (behind_asides items)) (sym left ∙ records ∙ right) in
     a.are ∙ (λ k. notes (front k) ++ behind k) ∙ sym b.are
 
--- ---- the end: nothing is told of what is left
+-- ---- the end: nothing is reported of what is left
 
 pub none-left : (items : List Item) → ArePlain items → trees_in items ≡ [] → behind_others (records_in items) ≡ [] → behind_asides items ≡ []
 none-left [] plain trees records = refl

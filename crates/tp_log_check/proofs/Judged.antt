@@ -1,4 +1,4 @@
--- What a turn over the planner that is told an event's items says of them: where another record is due, or the planner stops, no turn of right
+-- What a turn over the planner that is given an event's items says of them: where another record is due, or the planner stops, no turn of right
 -- answers tells them.
 use Rattle.std.proofs.Common.{◌≡◌, ◌↔◌, ℕ, Bool, false, List, [], ◌∷◌, ◌++◌, Option, Some, None, map, take, drop, refl, sym, ap, subst, ◌∙◌}
 use Rattle.std.specs.Prelude.{IsNone, MatchOption}

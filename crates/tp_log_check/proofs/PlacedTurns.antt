@@ -1,4 +1,4 @@
--- A turn over the planner that is told an event's items, and takes them all: they stand as those of its records and trees.
+-- A turn over the planner that is given an event's items, and takes them all: they stand as those of its records and trees.
 use Rattle.std.proofs.Common.{◌≡◌, ℕ, Bool, true, false, List, [], ◌∷◌, ◌++◌, refl, sym, ap, subst, ◌∙◌, drop, zero, suc, Option, Some, None, append_assoc}
 use Rattle.std.specs.Bool.{MatchBool}
 use Rattle.std.specs.Prelude.{IsFalse}
@@ -157,7 +157,7 @@ module _ (machine : Machine) where
 
   -- ---- a turn
   module _ (s : SessionState) (k : KeepsThrough machine s) where
-    -- nothing is told before the asks
+    -- nothing is reported before the asks
     quiet : (p : ToldValue) (records : List Record) (p' : ToldValue) (rest : List Record) → records ≡ [] → p' ≡ p → Places p' rest → AreOf p (records ++ rest) → IsAhead p false (records ++ rest) (trees_in (ahead p))
     quiet p records p' rest none same on of =
         let on' : Places p rest = subst (λ x. Places x rest) same on in

@@ -109,7 +109,7 @@ module _ (left left' : Option (List ℕ)) (s s' : LogState) (text : List ℕ) (s
   stopped stop.Source h = stops-for Source (done-so-far (silent h.1)) h.0 tt
   stopped stop.Sink h = go h.told h.answered (cut takes.written)
     where
-      -- nothing was told before this line, and of it something is
+      -- nothing was reported before this line, and of it something is
       cut : at.taken ≡ Some ([] ++ takes.text) → (takes.text ≡ []) × (0 < length h.told)
       cut e =
           let k = subst (λ o. IfSome o (IsCutShort h.told (Some []))) e h.cut in
@@ -140,7 +140,7 @@ pub stops-so : (left left' : Option (List ℕ)) (s s' : LogState) (text : List �
     → AsCause why s' (StopsFor s.checker.machine left left' text)
 stops-so left left' s s' text why start h = stopped left left' s s' text start h.rest h.at h.takes why h.stops
 
--- a cause that is known is told of what the source gave
+-- a cause that is known is reported of what the source gave
 pub stops-from : (machine : Machine) (left left' : Option (List ℕ)) (cause : Rejection) (text : List ℕ) → IsReadFrom left text left' → StopsFor machine left left' text cause → StopsFrom machine left left' cause
 stops-from machine left left' Memory text read stops = tt
 stops-from machine left left' cause text read stops = (text, read, stops)

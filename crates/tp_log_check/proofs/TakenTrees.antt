@@ -1,4 +1,4 @@
--- The planner that is told its answers takes the trees of its items one after another.
+-- The planner that is given its answers takes the trees of its items one after another.
 use Rattle.std.proofs.Common.{◌≡◌, Bool, true, false, List, [], ◌∷◌, ◌++◌, refl, sym, ap, subst, ◌∙◌}
 use Rattle.std.specs.Prelude.{if◌then◌else◌}
 use Rattle.tp_bounds.specs.declared.tree.BoundTree.{BoundTree}

@@ -1,4 +1,4 @@
--- Why a flaw is told of the event that is under way, and on which line.
+-- Why a flaw is reported of the event that is under way, and on which line.
 use Rattle.std.specs.Prelude.{◌≡◌, ℕ, ◌+◌, ◌≤◌, min, nat_lt, ◌⊎◌, List, [], ◌∷◌, length, take, drop, Option, Some, None, if◌then◌else◌}
 use Rattle.tp_bounds.specs.declared.tree.BoundTree.{BoundTree}
 use Rattle.tp_log_check.specs.Heights.{heights}
@@ -104,7 +104,7 @@ IsDueOrStops machine s event items stop = ((stop.reason ≡ reason.Due) × IsDue
 
 -- ---- flaws
 
--- the items that are told of the event, with the tree to which lines came last, or without it
+-- the items that are reported of the event, with the tree to which lines came last, or without it
 abbrev pub AreItemsOf : Underway → List Item → Type 0
 AreItemsOf u items = (items ≡ u.items) ⊎ (Event u.event ∷ items ≡ closed (Event u.event ∷ u.items) u.tree)
 
@@ -130,16 +130,16 @@ TellWholeTurn machine s event items = (after : SessionState) × IsAccepted machi
 abbrev pub IsBehind : List Item → WrongItem → Type 0
 IsBehind items stop = length items ≤ stop.item
 
--- nothing is wrong with the items that are told so far: they tell a whole turn, or what is wrong stands behind them
+-- nothing is wrong with the items that are reported so far: they tell a whole turn, or what is wrong stands behind them
 abbrev pub AreRightSoFar : Machine → SessionState → AnEvent → List Item → Type 0
 AreRightSoFar machine s event items = TellWholeTurn machine s event items ⊎ ((stop : WrongItem) × IsDueOrStops machine s event items stop × IsBehind items stop)
 
--- of the event that is under way, if there is one, nothing is wrong with the items that are told so far
+-- of the event that is under way, if there is one, nothing is wrong with the items that are reported so far
 abbrev pub IsRightUnder : Machine → SessionState → Option Underway → Type 0
 IsRightUnder machine s None = Unit {0}
 IsRightUnder machine s (Some u) = AreRightSoFar machine s u.event u.items
 
--- that a line is off the grammar is told only if nothing is wrong before it; any other flaw, only for a reason of the event that is under way
+-- that a line is off the grammar is reported only if nothing is wrong before it; any other flaw, only for a reason of the event that is under way
 abbrev pub HasCause : CheckerValue → Flaw → Type 0
 HasCause c Memory = Unit {0}
 HasCause c (Text line) = IsRightUnder c.machine c.state c.under

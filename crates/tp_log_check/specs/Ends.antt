@@ -60,7 +60,7 @@ module _ (machine : Machine) (left left' : Option (List ℕ)) (done rest : List 
     pub past : IsPastSizes (length done + length next.line) (event_lines done + events_in next.line)
 
   -- the next line brings a flaw to light, and with it the log still keeps its sizes. The line is the first one off the grammar, or the flaw
-  -- lies in what is told of the last event. No lawful log begins with the lines up to this one
+  -- lies in what is reported of the last event. No lawful log begins with the lines up to this one
   pub record IsRefusedAt (flaw : Flaw) : Type 0 where
     pub next : NextLine line_bytes left left' rest
     pub bytes : length done + length next.line ≤ most_bytes
@@ -70,7 +70,7 @@ module _ (machine : Machine) (left left' : Option (List ℕ)) (done rest : List 
     pub lies : LiesAt told next.line flaw
     pub none : BeginsNone machine (lines_of done ++ next.line ∷ [])
 
-  -- the source is at its end and all its lines were taken. The flaw lies in what is told of the last event, and the lines are no lawful log
+  -- the source is at its end and all its lines were taken. The flaw lies in what is reported of the last event, and the lines are no lawful log
   pub record IsRefusedAtEnd (flaw : Flaw) : Type 0 where
     pub ended : IsAtEnd left left'
     pub all : rest ≡ []
@@ -87,7 +87,7 @@ module _ (machine : Machine) (left left' : Option (List ℕ)) (done rest : List 
   StopsAt Log = IsTooLongWith
   StopsAt (Flawed flaw) = (flaw ≢ WantsMemory) × (IsRefusedAt flaw ⊎ IsRefusedAtEnd flaw)
 
--- the checker took all lines of the log. The flaw lies in what is told of the last event, and the lines are no lawful log
+-- the checker took all lines of the log. The flaw lies in what is reported of the last event, and the lines are no lawful log
 pub record IsFlawedEnd (c : CheckerValue) (flaw : Flaw) (told : List LogLine) : Type 0 where
   pub lies : LiesInLast told flaw
   pub caused : HasCause c flaw
@@ -99,7 +99,7 @@ EndsFor c Memory = Unit {0}
 EndsFor c (Flawed flaw) = (flaw ≢ WantsMemory) × ((told : List LogLine) → HasRead c told → IsFlawedEnd c flaw told)
 EndsFor c _ = ⊥
 
--- a flaw is told for what its rule says of the turn at which the checker stands
+-- a flaw is reported for what its rule says of the turn at which the checker stands
 abbrev pub IsCaused : CheckerValue → Rejection → Type 0
 IsCaused c (Flawed flaw) = HasCause c flaw
 IsCaused c _ = Unit {0}

@@ -1,4 +1,4 @@
--- What is told of one event, as an entry of a log.
+-- What is reported of one event, as an entry of a log.
 use Rattle.std.specs.Prelude.{List, [], ◌∷◌}
 use Rattle.tp_bounds.specs.declared.tree.BoundTree.{BoundTree}
 use Rattle.tp_log.specs.declared.item.Item.{Item}

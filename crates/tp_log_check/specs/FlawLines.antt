@@ -1,4 +1,4 @@
--- On which lines flaws are told.
+-- On which lines flaws are reported.
 use Rattle.std.specs.Prelude.{◌≡◌, ℕ, ◌+◌, ◌<◌, ◌≤◌, false, List, [], ◌∷◌, ◌++◌, length}
 use Rattle.std.specs.List.{All}
 use Rattle.tp_log.specs.LogLines.{AreInOrder, IsLogLine, is_event, log_line_text}
@@ -16,7 +16,7 @@ pub record IsFirstOff (before : List LogLine) (line : List ℕ) (n : ℕ) : Type
   pub order : AreInOrder before
   pub off : (told : LogLine) → IsLogLine told → line ≡ log_line_text told → AreInOrder (before ++ told ∷ []) → ⊥
 
--- a flaw of what is told of an event is told on a line behind the event's, and on this one at most
+-- a flaw of what is reported of an event is reported on a line behind the event's, and on this one at most
 abbrev pub LiesBehind : ℕ → ℕ → Flaw → Type 0
 LiesBehind event last (Due n) = (event < n) × (n ≤ last)
 LiesBehind event last (Illegal n first second) = (event < n) × (n ≤ last)
@@ -24,7 +24,7 @@ LiesBehind event last (NotLeast n given least) = (event < n) × (n ≤ last)
 LiesBehind event last (Tree n flaw) = (event < n) × (n ≤ last)
 LiesBehind event last _ = ⊥
 
--- the flaw is told behind the line of the last event, on the one behind all lines at most
+-- the flaw is reported behind the line of the last event, on the one behind all lines at most
 pub record LiesInLast (told : List LogLine) (flaw : Flaw) : Type 0 where
   pub earlier : List LogLine
   pub event : AnEvent
@@ -33,12 +33,12 @@ pub record LiesInLast (told : List LogLine) (flaw : Flaw) : Type 0 where
   pub last : All (λ line. is_event line ≡ false) later
   pub lies : LiesBehind (length earlier + 1) (length told + 1) flaw
 
--- where a flaw is told that the line behind these brings to light
+-- where a flaw is reported that the line behind these brings to light
 abbrev pub LiesAt : List LogLine → List ℕ → Flaw → Type 0
 LiesAt before line (Text n) = IsFirstOff before line n
 LiesAt before line flaw = LiesInLast before flaw
 
--- the next line is told to be off the grammar, or a flaw of the last event is told
+-- the next line is reported to be off the grammar, or a flaw of the last event is reported
 abbrev pub IsOffOr : List LogLine → ℕ → Flaw → Type 0
 IsOffOr before line (Text n) = n ≡ line
 IsOffOr before line flaw = LiesInLast before flaw

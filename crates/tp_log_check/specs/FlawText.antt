@@ -1,4 +1,4 @@
--- A flaw as it is told.
+-- A flaw as it is reported.
 use Rattle.std.specs.Prelude.{ℕ, List, ◌++◌, codes}
 use Rattle.std.specs.Fmt.{decimal, signed_decimal}
 use Rattle.tp_bound_laws.specs.declared.claim.TreeFlaw.{TreeFlaw}

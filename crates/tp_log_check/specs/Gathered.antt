@@ -7,7 +7,7 @@ use Rattle.tp_log.specs.declared.item.Item.TheVariants as item
 use Rattle.tp_log.specs.declared.log_line.LogLine.{LogLine}
 use Rattle.tp_log_check.specs.declared.pending.Pending.{Pending}
 
--- the event and what is told of it so far
+-- the event and what is reported of it so far
 abbrev pub items_of : Pending → List Item
 items_of p = item.Event p.event ∷ p.items.items
 

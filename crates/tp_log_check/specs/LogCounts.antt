@@ -1,4 +1,4 @@
--- What is counted of a log: its events, and the plans, nones and budgets that are told in it.
+-- What is counted of a log: its events, and the plans, nones and budgets that are reported in it.
 use Rattle.std.specs.Prelude.{◌+◌, ◌<◌, ◌≤◌, ◌^◌, Bool, true, false, List, count_by}
 use Rattle.tp_log.specs.declared.log_line.LogLine.{LogLine}
 use Rattle.tp_log.specs.declared.log_line.LogLine.TheVariants.{Event, Note}

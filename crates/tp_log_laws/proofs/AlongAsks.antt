@@ -1,4 +1,4 @@
--- A phase of asks over the planner that is told its answers goes as one of right answers does.
+-- A phase of asks over the planner that is given its answers goes as one of right answers does.
 use Rattle.std.proofs.Common.{◌≡◌, ℕ, ◌<◌, Bool, true, false, List, [], ◌∷◌, ◌++◌, length, refl, sym, ap, subst, ◌∙◌, inl, inr, ◌⊎◌, Contains}
 use Rattle.std.specs.Bool.{MatchBool}
 use Rattle.tp_bounds.specs.declared.tree.BoundTree.{BoundTree}

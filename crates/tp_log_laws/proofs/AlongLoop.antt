@@ -1,4 +1,4 @@
--- An outage, its loop and its settling over the planner that is told its answers go as those of right answers do.
+-- An outage, its loop and its settling over the planner that is given its answers go as those of right answers do.
 use Rattle.std.proofs.Common.{◌≡◌, ◌≢◌, ℕ, Bool, true, false, List, [], ◌∷◌, ◌++◌, refl, sym, ap, subst, ◌∙◌, AllPairs, Option, Some, None, append_assoc}
 use Rattle.std.proofs.lemmas.Option.{same_Some}
 use Rattle.tp_bounds.specs.declared.tree.BoundTree.{BoundTree}

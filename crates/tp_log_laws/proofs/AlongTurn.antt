@@ -1,4 +1,4 @@
--- A turn over the planner that is told its answers goes as the turn of right answers does whose records and trees it is told.
+-- A turn over the planner that is given its answers goes as the turn of right answers does whose records and trees it is given.
 use Rattle.std.proofs.Common.{◌≡◌, ◌⊎◌, inl, inr, ℕ, ◌+◌, Bool, true, false, List, [], ◌∷◌, ◌++◌, refl, sym, ap, subst, ◌∙◌, Option, Some, None}
 use Rattle.std.specs.Option.{MatchOption}
 use Rattle.std.proofs.lemmas.Option.{same_Some}
@@ -84,7 +84,7 @@ module _ (machine : Machine) where
       abbrev NeverHalts : Event → Type 0
       NeverHalts event = (records2 : List Record) (p2 : ToldValue) → StopsBeginning (told_steps machine) machine event s p records2 p2 → ⊥
 
-      -- nothing was told, and no tree was taken
+      -- nothing was reported, and no tree was taken
       left-so : (records : List Record) (q' : List BoundTree) (p2 : ToldValue) → records ≡ [] → q' ≡ q → p2 ≡ p → IsAhead p false (records ++ rest) q → AreLeft p2 rest q'
       left-so records q' p2 none same same2 at =
           (false, ap (λ x. behind_asides (ahead x)) same2 ∙ at ∙ ap (λ rs. behind_asides (items_with false (rs ++ rest) q)) none ∙ ap (λ ts. behind_asides (items_with false rest ts)) (sym same))

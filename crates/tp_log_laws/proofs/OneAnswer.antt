@@ -1,4 +1,4 @@
--- What is told of one answer of a loop, and what stands behind it: asides, and then no move where it was the last one and planned a copy.
+-- What is reported of one answer of a loop, and what stands behind it: asides, and then no move where it was the last one and planned a copy.
 use Rattle.std.proofs.Common.{◌≡◌, ℕ, Bool, true, false, List, [], ◌∷◌, ◌++◌, refl, sym, ap, subst, ◌∙◌, Some, None, append_assoc}
 use Rattle.tp_machine.specs.declared.machine.Machine.{Machine}
 use Rattle.tp_schedule.specs.PlannerAnswers.{Deed, IsAnswer}
@@ -51,7 +51,7 @@ module _ {P : Type 0} (steps : PlannerSteps P) (machine : Machine) (answers-firs
   after-is : (s : SessionState) (ask : Ask) (a : Answer) → next_ask machine s ≡ Some ask → (after_one machine s a).state ≡ (after_reply machine ask a.reply a.plans s).state
   after-is s ask a e = ap (λ o. (after_asked machine s o a).state) e
 
-  -- the answer is told, and then asides
+  -- the answer is reported, and then asides
   pub whole-told : (s : SessionState) (ask : Ask) (a : Answer) (answers : List Answer) → next_ask machine s ≡ Some ask
       → told_from s (a ∷ answers) ≡ told_of_reply machine s.plans ask a.reply a.plans ++ (asides s ask a ++ told_from (after_one machine s a).state answers)
   whole-told s ask a answers e =

@@ -1,4 +1,4 @@
--- How a turn goes over a planner that is told its answers by the records and trees of an entry.
+-- How a turn goes over a planner that is given its answers by the records and trees of an entry.
 use Rattle.std.specs.Prelude.{◌≡◌, ℕ, false, List, [], ◌∷◌}
 use Rattle.tp_bounds.specs.declared.tree.BoundTree.{BoundTree}
 use Rattle.tp_machine.specs.declared.machine.Machine.{Machine}
@@ -18,7 +18,7 @@ use Rattle.tp_run_laws.specs.Runs.{items_with}
 use Rattle.tp_run_laws.specs.Wholes.{IsWhole}
 use Rattle.tp_log_laws.specs.AcceptedEntries.{AcceptedTurn}
 
--- the planner that is told its answers
+-- the planner that is given its answers
 abbrev pub told_rules : PlannerRules ToldValue
 told_rules = record {
   spent = λ p. spent_on_trust;
@@ -29,12 +29,12 @@ told_rules = record {
 abbrev pub told_steps : Machine → PlannerSteps ToldValue
 told_steps machine = right_steps told_rules machine
 
--- all that is told by items is taken: only asides may be left of them
+-- all that the items say is taken: only asides may be left of them
 abbrev pub IsThrough : ToldValue → Type 0
 IsThrough p = behind_asides (ahead p) ≡ []
 
 module _ (machine : Machine) (event : Event) (s : SessionState) (p : ToldValue) where
-  -- each of its turns on the live state tells these records, leads to that state, and takes all that is told
+  -- each of its turns on the live state tells these records, leads to that state, and takes all that is reported
   abbrev pub TurnsTell : List Record → SessionState → Type 0
   TurnsTell records s' = (notes : List Record) (last : SessionState) (p' : ToldValue) → LiveTurn (told_steps machine) machine event s p notes last p' → (notes ≡ records) × (last ≡ s') × IsThrough p'
 
@@ -43,7 +43,7 @@ module _ (machine : Machine) (event : Event) (s : SessionState) (p : ToldValue) 
   NeverStops = (notes : List Record) (p' : ToldValue) → LiveStop (told_steps machine) machine event s p notes p' → ⊥
 
 -- where the event of an entry has a turn of right answers on a whole state, its budgets on trust, with its records and trees, a planner
--- that is told these, each tree in its place, tells the same on the live part, and never stops
+-- that is given these, each tree in its place, tells the same on the live part, and never stops
 abbrev pub LawfulTurnsAccepted : Machine → Type 0
 LawfulTurnsAccepted machine = (copies : ℕ) (e : Entry BoundTree) (whole s whole' : SessionState) (p : ToldValue)
     → CanTakeEvents machine copies s → IsWhole machine whole s → AcceptedTurn machine e.event whole e.trees e.records whole' [] → ahead p ≡ items_with false e.records e.trees

@@ -71,7 +71,7 @@ kept-of machine now plans exempt none p in' timed floors horizon is = record {
   at-horizon : (q : Plan) → p ≡ q → (i : ℕ) → i ≤ length q.acts → IsFalse (is_fixed q i) → point q i ≤ now + machine.window
   at-horizon q e = horizon q (subst (Contains plans) e in')
 
--- ---- what is told
+-- ---- what is reported
 -- the label of a plan that is the asked copy's
 asked-label : (ask : Ask) (p : Plan) → p.name ≡ ask.name → p.sheet ≡ ask.sheet → label_of_plan p ≡ label_of_asked ask
 asked-label ask p name sheet = λ i. record { job = name i; number = (sheet i).number; copy = (sheet i).copy }
@@ -144,7 +144,7 @@ module _ (machine : Machine) (plans : List Plan) (ask : Ask) (legal : IsLegal ma
         let so = planned-so told later others' rest first tells in
         breaks (subst (IsKeptPlan machine ask.now (exempt_of ask)) (only.only so.plan so.timed so.told_plan) so.kept)
 
-    -- moves are told too
+    -- moves are reported too
     pub moves-or-none : (others' : List Plan) (rest : List Item) → Tells machine plans ask (Note told ∷ later) Planned others' rest
         → (qs : List Plan) × ((rest' : List Item) × TellsMoves machine ask.now (others (Some ask.sheet) plans) qs later rest')
     moves-or-none others' rest tells =
@@ -152,7 +152,7 @@ module _ (machine : Machine) (plans : List Plan) (ask : Ask) (legal : IsLegal ma
         (others (Some ask.sheet) others', (Tree so.tree ∷ rest, so.moved))
 
     module _ (mid : List Plan) (taken : ℕ) (takes : TakesMoves machine ask.now (Some ask.sheet) plans mid later taken) (after : List Plan) (is : after ≡ put_plan plan (without plan.sheet mid)) where
-      -- a right answer that is told is this one, and its tree stands here
+      -- a right answer that is reported is this one, and its tree stands here
       pub record IsIt (others' : List Plan) (rest : List Item) : Type 0 where
         pub same : others' ≡ after
         pub right : IsRight machine plans ask others'

@@ -1,4 +1,4 @@
--- Actions of a machine are told apart by their names.
+-- Actions of a machine differ by their names.
 use Rattle.std.proofs.Common.{◌≡◌, ◌≢◌, ℕ, ◌-◌, ◌<◌, ◌≤◌, ◌++◌, Bool, true, false, drop, take, append_assoc, zero, suc, List, [], ◌∷◌, map, length, refl, sym, ap, ◌∙◌, arith, All, Some, slice_get, get_or, inl, inr}
 use Rattle.std.proofs.lemmas.Bool.{cases_order}
 use Rattle.std.proofs.lemmas.List.{length-map}

@@ -1,4 +1,4 @@
--- A plan that was read from a record is told by it, and no other right one is.
+-- A plan that was read from a record is given by it, and no other right one is.
 use Rattle.std.proofs.Common.{◌≡◌, ◌≢◌, ℕ, ◌+◌, ◌<◌, ◌≤◌, suc, List, [], ◌∷◌, ◌++◌, drop, take, length, map, refl, sym, ap, subst, ◌∙◌, arith, All, Option, Some, None, IsTrue, slice_get, slice_index}
 use Rattle.std.specs.Prelude.{IfSome}
 use Rattle.std.proofs.lemmas.List.{drop-append-le, drop_all, length-append, length-drop, length-map, take-append-drop}
@@ -63,7 +63,7 @@ front-fixed front i e = rw e refl
 
 module _ (kept : ℕ) (points : List ℕ) where
   -- ---- the plan that is read
-  -- its new points are those that are told
+  -- its new points are those that are given
   pub told-points : (front : Option Plan) → IsKept kept front → IfSome front IsFormed → 0 < length points → IsJoined front points → drop kept (points_behind front points) ≡ points
   told-points None none formed some joined = ap (λ n. drop n points) none
   told-points (Some f) is formed some joined =

@@ -40,11 +40,11 @@ abbrev pub IfStop : (ℕ → Reason → Type 0) → Failure → Type 0
 IfStop P failure.Memory = Unit {0}
 IfStop P (failure.Stop found) = P found.left found.reason
 
--- it is told where there are so many items yet
+-- it is reported where there are so many items yet
 abbrev pub IsFrom : ℕ → (Reason → Type 0) → ℕ → Reason → Type 0
 IsFrom here P left reason = (left ≡ here) × P reason
 
--- another item is due, which is told where this holds
+-- another item is due, which is reported where this holds
 abbrev pub IsPlain : Type 0 → Reason → Type 0
 IsPlain Due IsDue = Due
 IsPlain Due _ = ⊥
@@ -90,7 +90,7 @@ IsOffSettling machine plans now items left first second =
     HasOffMove machine now None plans items left first second
     ⊎ ((plans' : List Plan) × ((taken : ℕ) × (TakesMoves machine now None plans plans' items taken × HasFault (IsSettlingFault machine now plans plans') machine now plans' first second)))
 
--- a move is told that is none of those that are due, or no two numbers tell what is wrong with the schedule that they tell
+-- a move is reported that is none of those that are due, or no two numbers tell what is wrong with the schedule that they tell
 abbrev pub IsDueInSettling : Machine → List Plan → ℕ → List Item → ℕ → Type 0
 IsDueInSettling machine plans now items left =
     IsMoveOver None plans items left

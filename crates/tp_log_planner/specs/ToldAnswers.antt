@@ -34,7 +34,7 @@ pub record ToldValue : Type 0 where
 abbrev pub ahead : ToldValue → List Item
 ahead p = drop p.at p.items
 
--- a record by which no answer is told: neither a plan, a move, a none nor a budget
+-- a record that gives no answer: neither a plan, a move, a none nor a budget
 abbrev pub is_other : Record → Bool
 is_other (TellsPlan sheet place points acts) = false
 is_other (Move sheet points) = false
@@ -115,7 +115,7 @@ TellsOnly machine plans items (replied ask reply) plans' rest =
 TellsOnly machine plans items (settled now) plans' rest =
     (others : List Plan) (rest' : List Item) → TellsSettled machine plans now items others rest' → (others ≡ plans') × (rest' ≡ rest)
 
--- a deed is told by the items to come, and takes them. Where plans of different jobs have different names, they tell it alone
+-- a deed is given by the items to come, and takes them. Where plans of different jobs have different names, they tell it alone
 pub record TakesOn (p : ToldValue) (machine : Machine) (plans : List Plan) (deed : Deed) (plans' : List Plan) (p' : ToldValue) : Type 0 where
   pub told : TellsDeed machine plans (ahead p) deed plans' (ahead p')
   pub only : AreNamed plans → TellsOnly machine plans (ahead p) deed plans' (ahead p')

@@ -70,6 +70,6 @@ pub record TakesMoves (machine : Machine) (now : ℕ) (asked : Option SheetId) (
   pub left : drop taken items ≡ behind_moves asked before items
   pub only : AreNamed before → (qs : List Plan) (rest : List Item) → TellsMoves machine now (others asked before) qs items rest → (qs ≡ others asked after) × (rest ≡ drop taken items)
 
--- some moves are told of plans whose jobs have different names
+-- some moves are given of plans whose jobs have different names
 abbrev pub DoTellMoves : Machine → ℕ → Option SheetId → List Plan → List Item → Type 0
 DoTellMoves machine now asked before items = AreNamed before × ((qs : List Plan) × ((rest : List Item) × TellsMoves machine now (others asked before) qs items rest))

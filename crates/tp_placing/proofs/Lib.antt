@@ -18,8 +18,8 @@ pub mod NearNet
 pub mod LineFacts
 pub mod GoalFacts
 pub mod ReadFacts
-pub mod ReadingFacts
-pub mod AddingFacts
+pub mod NetworkFacts
+pub mod AddedPlanFacts
 pub mod MarkFacts
 pub mod WriteTimes
 pub mod WritePlans

@@ -113,7 +113,7 @@ impl<N: Network> Board<N> {
         self.follow_from(machine, schedule, now, None)
     }
 
-    /// Follows the live plans of the schedule from a board that is loaded at their moment. If a copy is told, no other plan is
+    /// Follows the live plans of the schedule from a board that is loaded at their moment. If a copy is named, no other plan is
     /// new.
     fn follow_from(
         &mut self,

@@ -18,7 +18,7 @@ use Rattle.tp_session.specs.Sessions.{Standing, Tells, start_of}
 use Rattle.tp_stream.specs.declared.stop.Stop.{Stop}
 use Rattle.tp_stream.specs.declared.stop.Stop.TheVariants as stop
 use Rattle.tp_farm.proofs.ListFacts.{get_or-shown}
-use Rattle.tp_farm.proofs.SendingFacts.{AllZip-more}
+use Rattle.tp_farm.proofs.SentEvents.{AllZip-more}
 use Rattle.tp_farm.specs.Farms.{FarmState, farm_of}
 use Rattle.tp_farm.specs.Lists.{IsFileName, names_of}
 use Rattle.tp_farm.specs.Scripts.{IsStopped, IsTaken}

@@ -100,7 +100,7 @@ count-takes last p i formed high within early =
     let act = get_or p.acts i none in
     ap length (due-takes last p i act formed high (slice_get-get_or p.acts i none within) early) ∙ length-append (due_below last p i) (run_at p i act ∷ [])
 
--- the release of one action more is told
+-- the release of one action more is reported
 pub told-more : (machine : Machine) (last : ℕ) (p : Plan) (i : ℕ) (act : ActId) (start end : ℕ) (old told : List Told) → IsFormed p → p.released ≤ i
     → slice_get p.acts i ≡ Some act → slice_get p.points i ≡ Some start → slice_get p.points (i + 1) ≡ Some end → start ≤ last
     → told ≡ old ++ map (release_of machine) (due_below last p i)

@@ -1,4 +1,4 @@
--- Where a job breaks: its fates fit, no copy waits after them, and what is told and left are those of the break.
+-- Where a job breaks: its fates fit, no copy waits after them, and what is reported and left are those of the break.
 use Rattle.std.proofs.Common.{◌≡◌, ℕ, ◌+◌, ◌≤◌, arith, length, not, List, [], ◌∷◌, ◌++◌, map, filter, flat_map, All, sym, ap, ◌∙◌, subst}
 use Rattle.std.proofs.lemmas.List.Elements.{All-contains}
 use Rattle.tp_jobs.specs.Backlogs.{mark_broken}
@@ -66,7 +66,7 @@ break-leaves job s mid end taken follows =
       refills = (all k).refills;
     }
 
--- what is told
+-- what is reported
 pub break-tells : (job : ℕ) (s : SessionState) (jobs : List Job) (copies : List SheetId)
     → copies ≡ map (λ w. w.sheet) (filter (is_of_job job) s.waiting) → jobs ≡ s.jobs
     → (Broken (job_name s.jobs job) ∷ []) ++ told_by_copy jobs s.now (fate_in_break s job) copies s.plans ≡ (job_break job s).records

@@ -25,7 +25,7 @@ fate-at rule (q ∷ plans) (g ∷ fates) e (suc i) p d at = let tails : map mean
 pub take-next : {X : Type 0} (xs : List X) (i : ℕ) (x : X) → slice_get xs i ≡ Some x → take (i + 1) xs ≡ take i xs ++ x ∷ []
 take-next xs i x is = take_more xs i x (slice_get_within xs i x is) ∙ ap (λ y. take i xs ++ y ∷ []) (get_or_from_slice_get xs i x x is)
 
--- one more is told
+-- one more is reported
 pub told-next : {X Y : Type 0} (f : X → List Y) (xs : List X) (i : ℕ) (x : X) (ys : List Y) (old mid new : List Y) → slice_get xs i ≡ Some x → ys ≡ f x
     → mid ≡ old ++ flat_map f (take i xs) → new ≡ mid ++ ys → new ≡ old ++ flat_map f (take (i + 1) xs)
 told-next f xs i x ys old mid new at its before now =

@@ -1,4 +1,4 @@
--- The fates where a module goes out: they fit, and the lost copies are told apart.
+-- The fates where a module goes out: they fit, and the lost copies are reported apart.
 use Rattle.std.proofs.Common.{◌≡◌, ℕ, ◌≤◌, Bool, true, false, cond, not, ◌&&◌, ◌||◌, List, [], ◌∷◌, map, refl, ap, ◌∙◌, arith, count_by, nat_lt}
 use Rattle.std.specs.List.{list_any}
 use Rattle.tp_machine.specs.declared.machine.Machine.{Machine}

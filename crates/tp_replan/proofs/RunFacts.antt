@@ -1,4 +1,4 @@
--- What is told of the actions of a plan, one after another: releases, and what is taken back.
+-- What is reported of the actions of a plan, one after another: releases, and what is taken back.
 use Rattle.std.proofs.Common.{◌≡◌, ℕ, ◌+◌, ◌<◌, ◌≤◌, Bool, true, false, cond, ◌&&◌, not, nat_le, List, [], ◌∷◌, ◌++◌, length, filter, map, take, Some, slice_get, refl, sym, ap, ◌∙◌, arith}
 use Rattle.std.proofs.lemmas.Bool.Decides.{nat_tests}
 use Rattle.std.proofs.lemmas.List.{append-nil, append_assoc, map-append}
@@ -59,7 +59,7 @@ keeps-at now p i act either = go (nat_le (i + 1) p.released) (nat_le (point p i)
       let is : nat_le (point p i) now ≡ true = grind (arith, nat_tests) in
       absurd cc
 
--- one more release is told
+-- one more release is reported
 pub release-told : (machine : Machine) (jobs : List Job) (last : ℕ) (p : Plan) (i : ℕ) (act : ActId) (sheet : SheetName) (name : List ℕ) (start end : ℕ) (old mid new : List Record)
     → IsFormed p → p.released ≤ i → slice_get p.acts i ≡ Some act → slice_get p.points i ≡ Some start → slice_get p.points (i + 1) ≡ Some end → start ≤ last
     → sheet ≡ label jobs p.sheet → name ≡ action_name machine act

@@ -12,7 +12,7 @@ use Rattle.tp_replan.specs.LooseLoop.{CanLoop}
 use Rattle.tp_replan.specs.declared.outage.Outage.{Outage}
 
 module _ {P : Type 0} (planner_steps : PlannerSteps P) (machine : Machine) where
-  -- the ask that was due was answered, and what the answer leads to was told and done
+  -- the ask that was due was answered, and what the answer leads to was reported and done
   pub record IsAnswered (s : SessionState) (planner : P) (notes : List Record)
       (s' : SessionState) (planner' : P) (notes' : List Record) : Type 0 where
     pub ask : Ask

@@ -37,7 +37,7 @@ AreFates rule plans fates = map meant fates ≡ map rule plans
 abbrev pub IsKnown : List Job → Plan → Type 0
 IsKnown jobs p = p.sheet.job < length jobs
 
--- what is told of the copy behind its recalls
+-- what is reported of the copy behind its recalls
 abbrev pub told_behind : List Job → Plan → Befalls → List Record
 told_behind jobs p fates.stays = []
 told_behind jobs p fates.lost = []
@@ -63,12 +63,12 @@ abbrev pub AreCutStarted : ℕ → List Plan → List Fate → Type 0
 AreCutStarted now plans fates = (i : ℕ) (p : Plan) (f : Fate) → slice_get plans i ≡ Some p → slice_get fates i ≡ Some f
     → IsTrue (is_cut_by (meant f)) → 1 ≤ started_count now p
 
--- what is told of the releases of the plan's actions that are due
+-- what is reported of the releases of the plan's actions that are due
 abbrev pub told_due : Machine → List Job → ℕ → Plan → List Record
 told_due machine jobs last p =
     map (λ run. record_of machine jobs (release_of machine run).tell) (due_until last p)
 
--- the notes grow by what is told, and the state is the one that follows
+-- the notes grow by what is reported, and the state is the one that follows
 pub record Leads (o : Outcome) (notes notes' : List Record) (s' : SessionState) : Type 0 where
   pub told : notes' ≡ notes ++ o.records
   pub state : s' ≡ o.state
@@ -98,7 +98,7 @@ is_copy_next [] plans = false
 is_copy_next (copy ∷ copies) [] = true
 is_copy_next (copy ∷ copies) (p ∷ plans) = not (is_before p.sheet copy)
 
--- what is told where a job breaks: of copies that waited, and of plans with their fates
+-- what is reported where a job breaks: of copies that waited, and of plans with their fates
 abbrev pub notice_of_copy : List Job → SheetId → Notice
 notice_of_copy jobs copy = record { sheet = copy; records = Drop (label jobs copy) ∷ [] }
 

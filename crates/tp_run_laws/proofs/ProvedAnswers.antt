@@ -97,14 +97,14 @@ module _ (machine : Machine) (nodes : ℕ) where
       let yes : true ≡ false = ap is_plan same ∙ other in
       cc
 
-  -- of an answer that takes its tree one record is told
+  -- of an answer that takes its tree one record is reported
   one-told : (plans : List Plan) (ask : Ask) (reply : Reply) (after : List Plan) (trees later : List BoundTree) → TakesTree tree_claims machine plans ask reply after trees later
       → (r : Record) × (told_of_given machine ask reply after ≡ r ∷ [])
   one-told plans ask Planned after trees later (tree, (p, planned, claim, is)) = (told_of_plan machine (kept_of ask) p, ap (told_of_planned machine (kept_of ask)) planned)
   one-told plans ask Never after trees later takes = (TellsNever (label_of_asked ask) (goal_name machine ask.goal), refl)
   one-told plans ask (Spent bound) after trees later takes = (Budget (label_of_asked ask) (goal_name machine ask.goal) bound, refl)
 
-  -- a plan that is told took a tree, which proves it behind its moves
+  -- a plan that is reported took a tree, which proves it behind its moves
   pub record TakesPlanTree (plans : List Plan) (ask : Ask) (reply : Reply) (after : List Plan) (trees later : List BoundTree) : Type 0 where
     pub tree : BoundTree
     pub is : trees ≡ tree ∷ later
@@ -116,7 +116,7 @@ module _ (machine : Machine) (nodes : ℕ) where
   plan-tree plans ask Never after trees later copy place points acts tells takes = absurd cc
   plan-tree plans ask (Spent bound) after trees later copy place points acts tells takes = absurd cc
 
-  -- a none that is told took a tree, which proves it right behind it
+  -- a none that is reported took a tree, which proves it right behind it
   pub record TakesNoneTree (plans : List Plan) (ask : Ask) (reply : Reply) (after : List Plan) (trees later : List BoundTree) : Type 0 where
     pub tree : BoundTree
     pub is : trees ≡ tree ∷ later
@@ -128,7 +128,7 @@ module _ (machine : Machine) (nodes : ℕ) where
   none-tree plans ask Never after trees later copy goal tells (tree, claim, is) = record { tree = tree; is = is; shown = λ rest. (tree, claim, (rest, refl)) }
   none-tree plans ask (Spent bound) after trees later copy goal tells takes = absurd cc
 
-  -- a budget that is told took none
+  -- a budget that is reported took none
   pub budget-tree : (plans : List Plan) (ask : Ask) (reply : Reply) (after : List Plan) (trees later : List BoundTree) (copy : SheetName) (goal : Option (List ℕ)) (bound : ℕ)
       → told_of_given machine ask reply after ≡ Budget copy goal bound ∷ [] → TakesTree tree_claims machine plans ask reply after trees later → later ≡ trees
   budget-tree plans ask Planned after trees later copy goal bound tells (tree, (p, planned, claim, is)) = absurd (no-plan ask after p (Budget copy goal bound) refl planned tells)

@@ -24,7 +24,7 @@ is_proved (TellsNever sheet goal) = true
 is_proved _ = false
 
 module _ (machine : Machine) (nodes : ℕ) where
-  -- the answer that a record tells, behind those that are told before it, with its tree
+  -- the answer that a record tells, behind those that are reported before it, with its tree
   pub record Found (given : List Given) (told : List Record) (r : Record) (behind : List Item) : Type 0 where
     pub first : List Given
     pub g : Given

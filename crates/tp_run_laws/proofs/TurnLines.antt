@@ -1,4 +1,4 @@
--- What is told of answers and of moves has lines, and so has what a turn tells.
+-- What is reported of answers and of moves has lines, and so has what a turn tells.
 use Rattle.std.proofs.Common.{◌≡◌, ◌≢◌, ℕ, suc, ◌+◌, ◌≤◌, Bool, true, false, cond, List, [], ◌∷◌, ◌++◌, length, refl, sym, ap, ◌∙◌, arith, All, subst, not, Option, Some, None, find, option_map}
 use Rattle.std.specs.Bool.{MatchBool}
 use Rattle.std.specs.Option.{MatchOption}

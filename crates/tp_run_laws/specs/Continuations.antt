@@ -1,4 +1,4 @@
--- Runs that go on: from the state that is told of a run before, or behind the log of the first events.
+-- Runs that go on: from the state that a run before left, or behind the log of the first events.
 use Rattle.std.specs.Prelude.{◌≡◌, ℕ, Bool, List, ◌++◌}
 use Rattle.std.specs.List.{filter_map}
 use Rattle.tp_bounds.specs.declared.tree.BoundTree.{BoundTree}

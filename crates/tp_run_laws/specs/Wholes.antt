@@ -1,4 +1,4 @@
--- What is told of the live part of a state, as what is told of the whole.
+-- What is reported of the live part of a state, as what is reported of the whole.
 use Rattle.std.specs.Prelude.{◌≡◌, ℕ, Bool, List, []}
 use Rattle.std.specs.List.{All, filter_map}
 use Rattle.tp_bounds.specs.declared.tree.BoundTree.{BoundTree}

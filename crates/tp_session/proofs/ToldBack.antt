@@ -1,4 +1,4 @@
--- What is told of where a state stands is the state itself.
+-- What is written of where a state stands denotes the state itself.
 use Rattle.std.proofs.Common.{◌≡◌, ℕ, ◌<◌, ◌==◌, ◌||◌, Bool, true, false, cond, List, [], ◌∷◌, map, refl, sym, ap, ◌∙◌, subst, arith, All, AllPairs, Contains, Option, Some, None, pos, negsuc, ◌+ℤ◌, ◌-ℤ◌, ◌≤ℤ◌}
 use Rattle.std.specs.Prelude.{◌&&◌, is_some, option_map, ℤ}
 use Rattle.std.specs.List.{list_any}

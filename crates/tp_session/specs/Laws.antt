@@ -21,6 +21,6 @@ abbrev pub StandsSoundly : Type 0
 StandsSoundly = (machine : Machine) (events : ℕ) (s : SessionState) → events ≤ last_number → length s.jobs ≤ most_jobs
     → CanBeSaved machine events s → IsSound machine (standing_of machine s)
 
--- and what is told of that is the state itself
+-- and what is written of that denotes the state itself
 abbrev pub StandsAsTold : Type 0
 StandsAsTold = (machine : Machine) (events : ℕ) (s : SessionState) → CanBeSaved machine events s → standing_state machine (standing_of machine s) ≡ s

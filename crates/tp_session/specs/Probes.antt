@@ -46,7 +46,7 @@ module _ (machine : Machine) (nodes : ℕ) where
       (MatchBool (is_full machine s) (answer ≡ Full)
       (IsSomeAnd (first_copy s media groups) (λ w. AskGives nodes machine s.plans (ask_waiting machine (with_job machine name tray media groups s) w) answer)))
 
-  -- any other event, and a job that would be refused, is told refused
+  -- any other event, and a job that would be refused, is reported refused
   abbrev pub IsProbe : Event → SessionState → Probe → Type 0
   IsProbe (NewJob name tray media groups) s answer =
       MatchOption (refusal machine s (NewJob name tray media groups)) (ProbesJob s name tray media groups answer) (λ cause. answer ≡ Refused)

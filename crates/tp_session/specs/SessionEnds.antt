@@ -13,7 +13,7 @@ use Rattle.tp_session_standing.specs.Sound.{IsSound}
 use Rattle.tp_session_standing.specs.StandingStates.{standing_of, standing_state}
 
 -- the whole script was answered from the empty state on: this is the text of a run over its events. It ended in a state of which this
--- is the live part. Where this stands is sound to go on from, and what is told of that is the live part itself
+-- is the live part. Where this stands is sound to go on from, and what is written of that denotes the live part itself
 pub record EndsSoundly (machine : Machine) (nodes : ℕ) (bounds : Bool) (script : List ℕ) (live : SessionState) : Type 0 where
   pub fit : All (FitsIn line_bytes) (lines_of script)
   pub few : length (lines_of script) ≤ most_lines

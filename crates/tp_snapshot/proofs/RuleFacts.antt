@@ -74,7 +74,7 @@ module _ (m : Machine) (d : Data) where
     later = none-later 6 (omega arith) m t;
   }
 
-  -- where the rules up to 6 are kept, all of the standing is told
+  -- where the rules up to 6 are kept, all of the standing is given
   pub all-told : (n : ℕ) → 6 ≤ n → (t : Standing) → KeepsTo n m d t → IsToldBy m d t
   all-told n from t keeps =
       let moment = keeps.moment (omega arith) in
@@ -140,7 +140,7 @@ module _ (m : Machine) (d : Data) where
         pub no-waiting : waiting_of (names_of t.jobs) d ≡ None → BreaksOf 6 m d
         no-waiting none = breaks-six (λ u keeps. none-some (waiting_of (names_of t.jobs) d) u.waiting none (sym (ap (λ (js : List Job). waiting_of (names_of js) d) (same-jobs u keeps)) ∙ (keeps.waiting (lit≤ tt)).waiting))
 
-        -- one standing alone is told with the copies that wait
+        -- one standing alone is given with the copies that wait
         told-by : waiting_of (names_of t.jobs) d ≡ Some t.waiting → IsToldBy m d t
         told-by is = record { now = moment.now; outs = moment.outs; stock = moment.stock; jobs = jobs.jobs; differ = jobs.differ; plans = plans.plans; waiting = is }
 

@@ -1,4 +1,4 @@
--- What is written for a sound standing is told back.
+-- What is written for a sound standing is read back.
 use Rattle.std.proofs.Common.{◌≡◌, ℕ, true, List, [], ◌∷◌, length, get_or, map, Option, Some, None, refl, sym, subst, codes}
 use Rattle.std.specs.Str.{bytes_eq}
 use Rattle.std.proofs.lemmas.Bool.{le-leb, ltb-true}

@@ -1,4 +1,4 @@
--- What is written is told back, and bytes tell one standing at most.
+-- What is written is read back, and bytes tell one standing at most.
 use Rattle.std.specs.Prelude.{◌≡◌, ℕ, ◌<◌, ◌^◌, List, All}
 use Rattle.tp_machine.specs.declared.machine.Machine.{Machine}
 use Rattle.tp_words.specs.Fields.{IsName}

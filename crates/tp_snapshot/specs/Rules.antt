@@ -36,28 +36,28 @@ pub record HasMachine (d : Data) (machine : Machine) : Type 0 where
   pub at : field_of (codes "machine") as_str d ≡ Some text
   pub of_machine : IsMachineText text machine
 
--- 3. The moment, the modules that are out and what is free at the feeders are told.
+-- 3. The moment, the modules that are out and what is free at the feeders are given.
 pub record TellsMoment (machine : Machine) (d : Data) (t : Standing) : Type 0 where
   pub now : now_of d ≡ Some t.now
   pub outs : outs_of machine d ≡ Some t.outs
   pub stock : stock_of machine d ≡ Some t.stock
 
--- 4. The jobs are told, of different names.
+-- 4. The jobs are given, of different names.
 pub record TellsJobs (machine : Machine) (d : Data) (t : Standing) : Type 0 where
   pub jobs : jobs_of machine d ≡ Some t.jobs
   pub differ : DoNamesDiffer t.jobs
 
--- 5. The plans are told, in the order of copies.
+-- 5. The plans are given, in the order of copies.
 pub record TellsPlans (machine : Machine) (d : Data) (t : Standing) : Type 0 where
   pub plans : plans_of machine t.now t.jobs d ≡ Some t.plans
   pub in_order : AreInOrder t.plans
 
--- 6. The copies that wait are told, in the order of copies. They can wait, and not too many are open.
+-- 6. The copies that wait are given, in the order of copies. They can wait, and not too many are open.
 pub record TellsWaiting (machine : Machine) (d : Data) (t : Standing) : Type 0 where
   pub waiting : waiting_of (names_of t.jobs) d ≡ Some t.waiting
   pub keeps : KeepsWaiting machine t
 
--- The copies of these jobs are told at this moment: those with a plan in the order of copies, and those that wait. The jobs' names differ.
+-- The copies of these jobs are given at this moment: those with a plan in the order of copies, and those that wait. The jobs' names differ.
 pub record TellsCopies (machine : Machine) (now : ℕ) (jobs : List Job) (d : Data) (planned : List Plan) (held : List WaitingCopy) : Type 0 where
   pub differ : DoNamesDiffer jobs
   pub plans : plans_of machine now jobs d ≡ Some planned

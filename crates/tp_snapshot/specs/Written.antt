@@ -73,7 +73,7 @@ plan_data machine p =
     (member (codes "want") (want_data p.want)
     (member (codes "whole") (boolean (not (is_front p.kind))) no_members))))))
 
--- what is free at a feeder: nothing is told of an endless one
+-- what is free at a feeder: nothing is given of an endless one
 abbrev pub stock_data : Option ℕ → Data
 stock_data None = null
 stock_data (Some n) = whole_data n

@@ -5,7 +5,7 @@ use Rattle.tp_script.specs.declared.event.Event.{Event}
 use Rattle.tp_session.specs.Sessions.{Standing, Tells}
 use Rattle.tp_stream.specs.Tellers.{TellsAll}
 
--- however the rest of the events is answered, with what was told so far all of them are
+-- however the rest of the events is answered, with what was reported so far all of them are
 abbrev pub Leads : Standing → List Event → List ℕ → Standing → List Event → Type 0
 Leads start events so_far s rest = (text : List ℕ) (s' : Standing) → TellsAll Tells s rest text s' → TellsAll Tells start events (so_far ++ text) s'
 

@@ -158,7 +158,7 @@ named-known machine o name e = go (position (bytes_eq name) machine.locations) e
   go None e = rw e tt
   go (Some loc) e = at-known machine o loc e
 
--- what is told of a feeder by the counts
+-- what the counts say of a feeder
 pub empty-told : (machine : Machine) (refills : List ℤ) (plans : List Plan) (f : Feeder) (counts : List ℕ) (free : Option ℤ) (b : Bool) → f.loc.0 < 256 → counts ≡ by_location (taken_at machine plans)
     → free ≡ free_of f.stock (refilled refills f.loc.0) (get_or counts f.loc.0 0) → b ≡ option_eq int_eq free (Some (pos 0)) → is_empty machine refills plans f ≡ b
 empty-told machine refills plans f counts free b within counted is told =

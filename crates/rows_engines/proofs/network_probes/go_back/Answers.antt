@@ -1,4 +1,4 @@
-use Rattle.tp_placing.proofs.ReadingFacts.{can-undo, same-marks}
+use Rattle.tp_placing.proofs.NetworkFacts.{can-undo, same-marks}
 use Rattle.rows_engines.proofs.network_probes.go_back.Goals as goal
 
 pub undo_to-requires : goal.undo_to-requires

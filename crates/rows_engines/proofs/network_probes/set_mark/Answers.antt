@@ -1,5 +1,5 @@
 use Rattle.std.proofs.Common.{◌∙◌, sym}
-use Rattle.tp_placing.proofs.ReadingFacts.{can-mark, same-marks}
+use Rattle.tp_placing.proofs.NetworkFacts.{can-mark, same-marks}
 use Rattle.rows_engines.proofs.network_probes.set_mark.Goals as goal
 
 pub mark-requires : goal.mark-requires

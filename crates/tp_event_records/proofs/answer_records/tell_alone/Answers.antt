@@ -1,4 +1,4 @@
--- Where no other plan moved, that is all that is told.
+-- Where no other plan moved, that is all that is reported.
 use Rattle.std.proofs.Common.{◌≡◌, ◌∙◌, ◌++◌, OnOk, ap}
 use Rattle.std.proofs.lemmas.Result.{on_ok_weaker}
 use Rattle.tp_event_records.specs.RecordNames.{told_alone}

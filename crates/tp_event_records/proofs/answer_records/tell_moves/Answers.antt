@@ -1,4 +1,4 @@
--- The asked copy's plan is passed over, and the others are told of in turn.
+-- The asked copy's plan is passed over, and the others are reported of in turn.
 use Rattle.std.proofs.Common.{◌+◌, ◌++◌, drop, length, slice_get, arith, ap, sym, ◌∙◌}
 use Rattle.std.proofs.lemmas.List.{length-map}
 use Rattle.tp_schedule.specs.declared.parts.Plan.{Plan}

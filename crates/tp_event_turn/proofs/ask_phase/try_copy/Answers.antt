@@ -1,4 +1,4 @@
--- The copy is told full, or it is asked, and waits no more where it is planned.
+-- The copy is reported full, or it is asked, and waits no more where it is planned.
 use Rattle.std.proofs.Common.{◌≡◌, ◌∙◌, ◌+◌, inl, inr, true, false, refl, sym, ap}
 use Rattle.tp_event_rules.specs.LiveStates.{seen}
 use Rattle.tp_event_rules.specs.Planners.{right_steps}

@@ -1,4 +1,4 @@
--- A job that the lines refuse is told refused; one that they add leads on to the phase of asks.
+-- A job that the lines refuse is reported refused; one that they add leads on to the phase of asks.
 use Rattle.std.proofs.Common.{◌+◌, arith, length, sym, ap, subst}
 use Rattle.std.proofs.lemmas.Result.{on_ok_weaker}
 use Rattle.tp_jobs.specs.Backlogs.{Backlog}

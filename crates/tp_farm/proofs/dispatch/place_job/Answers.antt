@@ -3,7 +3,7 @@ use Rattle.std.proofs.Common.{◌≡◌, ◌+◌, sym, ap, ◌∙◌}
 use Rattle.std.specs.Str.{bytes_eq}
 use Rattle.indexmap.proofs.CallerLemmas.{insert_entry-new}
 use Rattle.tp_farm.specs.MachineChoice.{is_accepted, place_for}
-use Rattle.tp_farm.proofs.SendingFacts.{kept-accepted, kept-refused}
+use Rattle.tp_farm.proofs.SentEvents.{kept-accepted, kept-refused}
 use Rattle.tp_farm.proofs.dispatch.place_job.Goals as goal
 use Rattle.tp_farm.proofs.dispatch.place_job.Goals.{then-is_accepted+in_ok-insert, else-is_accepted}
 

@@ -1,6 +1,6 @@
 -- One teller after another is probed.
 use Rattle.std.proofs.Common.{◌+◌, ◌<◌, length, sym, subst, ◌∙◌, arith}
-use Rattle.tp_farm.proofs.SendingFacts.{IsProbing, probed-ready, probed-states, probing-count, probing-more}
+use Rattle.tp_farm.proofs.SentEvents.{IsProbing, probed-ready, probed-states, probing-count, probing-more}
 use Rattle.tp_farm.proofs.dispatch.probe_all.Goals as goal
 
 pub returns-in_err-push-in-Ok-clause-states : goal.returns-in_err-push-in-Ok-clause-states

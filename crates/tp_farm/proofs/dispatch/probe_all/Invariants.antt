@@ -1,4 +1,4 @@
-use Rattle.tp_farm.proofs.SendingFacts.{IsProbing}
+use Rattle.tp_farm.proofs.SentEvents.{IsProbing}
 use Rattle.tp_farm.proofs.dispatch.probe_all.Given as goal
 
 abbrev pub invariant-loop-at : goal.invariant-loop-at

@@ -1,8 +1,8 @@
--- One teller after another is told.
+-- One session after another is given the event.
 use Rattle.std.proofs.Common.{◌≡◌, ◌<◌, [], length, sym, ap, subst, ◌∙◌, arith}
 use Rattle.std.proofs.lemmas.List.{length-set}
 use Rattle.tp_stream.specs.Tellers.{most_events}
-use Rattle.tp_farm.proofs.SendingFacts.{at-place, sending-more, sent-ready}
+use Rattle.tp_farm.proofs.SentEvents.{at-place, sending-more, sent-ready}
 use Rattle.tp_farm.proofs.dispatch.send.Goals as goal
 
 pub tell_at-requires-clause-ready : goal.tell_at-requires-clause-ready

@@ -1,4 +1,4 @@
-use Rattle.tp_farm.proofs.SendingFacts.{IsSending}
+use Rattle.tp_farm.proofs.SentEvents.{IsSending}
 use Rattle.tp_farm.proofs.dispatch.send.Given as goal
 
 abbrev pub invariant-loop-at : goal.invariant-loop-at

@@ -1,6 +1,6 @@
 -- The event is not for this teller.
 use Rattle.std.proofs.Common.{sym, ◌∙◌}
-use Rattle.tp_farm.proofs.SendingFacts.{told-none}
+use Rattle.tp_farm.proofs.SentEvents.{told-none}
 use Rattle.tp_farm.proofs.dispatch.tell_at.Goals as goal
 
 pub returns-else-has : goal.returns-else-has

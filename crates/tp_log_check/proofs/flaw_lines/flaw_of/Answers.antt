@@ -1,4 +1,4 @@
--- The flaw is told on the line of the item.
+-- The flaw is reported on the line of the item.
 use Rattle.std.proofs.Common.{◌≡◌, ◌+◌, ◌∙◌, ap, drop, refl, subst, sym, take, arith}
 use Rattle.std.proofs.lemmas.List.{drop_min, take_rest}
 use Rattle.tp_log_check.specs.Heights.{heights}

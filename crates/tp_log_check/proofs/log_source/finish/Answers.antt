@@ -1,4 +1,4 @@
--- A flaw that is told at the end lies in what is told of the last event.
+-- A flaw that is reported at the end lies in what is reported of the last event.
 use Rattle.std.proofs.Common.{rules, ◌≢◌}
 use Rattle.tp_log_check.specs.declared.flaw.Flaw.TheVariants.{Memory as WantsMemory}
 use Rattle.tp_log_check.proofs.log_source.finish.Goals as goal

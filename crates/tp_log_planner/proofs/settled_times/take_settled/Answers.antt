@@ -1,4 +1,4 @@
--- The moves settle the times, or nothing that is told does.
+-- The moves settle the times, or nothing that is reported does.
 use Rattle.std.proofs.Common.{ℕ, ℤ, None, inl}
 use Rattle.tp_schedule.specs.PlannerAnswers.{IsSettled}
 use Rattle.tp_schedule_check.specs.Faults.{IsSettlingFault}

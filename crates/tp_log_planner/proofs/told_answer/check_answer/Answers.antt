@@ -1,4 +1,4 @@
--- A point that could stand earlier is told as it was found.
+-- A point that could stand earlier is reported as it was found.
 use Rattle.tp_log_planner.proofs.ReasonFacts.{asked-times}
 use Rattle.tp_log_planner.proofs.told_answer.check_answer.Goals as goal
 

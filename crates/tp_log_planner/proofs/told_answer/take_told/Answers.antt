@@ -1,4 +1,4 @@
--- A plan is told by its record, and a none by its tree.
+-- A plan is given by its record, and a none by its tree.
 use Rattle.std.proofs.Common.{◌≡◌, ◌∷◌, ◌∙◌, length, subst, sym}
 use Rattle.tp_log.specs.declared.item.Item.TheVariants.{Note}
 use Rattle.tp_schedule.specs.PlannerAnswers.Due.{asking}

@@ -1,4 +1,4 @@
--- What is read makes one plan, and no other right one is told.
+-- What is read makes one plan, and no other right one is given.
 use Rattle.std.proofs.Common.{◌≡◌, ◌++◌, ◌∙◌, All, ap, subst, sym}
 use Rattle.std.specs.Prelude.{IfSome, option_copied}
 use Rattle.tp_schedule.specs.Answers.{AnswersAsk, acts_in}

@@ -3,7 +3,7 @@ use Rattle.tp_schedule.specs.Times.{ticks_from}
 use Rattle.tp_constraints.specs.Gaps.{low_of, cap_of}
 use Rattle.tp_placing.specs.ClockMove.{with_bounds_from}
 use Rattle.tp_placing.proofs.MovedBounds.{bounds-next, bounds-so-far, earliest-around, replaced-none}
-use Rattle.tp_placing.proofs.ReadingFacts.{same-size-itself, same-size-then}
+use Rattle.tp_placing.proofs.NetworkFacts.{same-size-itself, same-size-then}
 use Rattle.tp_placing.proofs.clock_move.move_plan.Goals as goal
 use Rattle.tp_placing.proofs.clock_move.move_plan.Goals.{After-earliest-time}
 

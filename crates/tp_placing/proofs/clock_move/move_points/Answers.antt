@@ -7,7 +7,7 @@ use Rattle.tp_constraints.specs.Gaps.{low_of, cap_of}
 use Rattle.tp_placing.specs.LoadedNet.{lows_of, point_count}
 use Rattle.tp_placing.proofs.LoadPoints.{count-more, count-within}
 use Rattle.tp_placing.proofs.MovedBounds.{row-at, rows-all, rows-length, rows-more, rows-next}
-use Rattle.tp_placing.proofs.ReadingFacts.{same-size-itself, same-size-then}
+use Rattle.tp_placing.proofs.NetworkFacts.{same-size-itself, same-size-then}
 use Rattle.tp_placing.proofs.clock_move.move_points.Goals as goal
 use Rattle.tp_placing.proofs.clock_move.move_points.Goals.{After-plan-item}
 

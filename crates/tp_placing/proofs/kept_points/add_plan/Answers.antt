@@ -3,7 +3,7 @@ use Rattle.tp_schedule.specs.Times.{ticks_from}
 use Rattle.tp_constraints.specs.Gaps.{low_of, cap_of}
 use Rattle.tp_placing.specs.LoadedNet.{with_bounds}
 use Rattle.tp_placing.proofs.LoadPoints.{bounds-push, bounds-count}
-use Rattle.tp_placing.proofs.ReadingFacts.{same-size-then}
+use Rattle.tp_placing.proofs.NetworkFacts.{same-size-then}
 use Rattle.tp_placing.proofs.kept_points.add_plan.Goals as goal
 
 pub unreachable-requires : goal.unreachable-requires

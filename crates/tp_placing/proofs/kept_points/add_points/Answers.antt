@@ -6,7 +6,7 @@ use Rattle.tp_schedule.specs.declared.parts.Plan.{Plan}
 use Rattle.tp_placing.specs.LoadedNet.{with_plans, firsts_from, point_count}
 use Rattle.tp_placing.proofs.LoadEdges.{drop-read}
 use Rattle.tp_placing.proofs.LoadPoints.{plans-more, plan-count, firsts-more}
-use Rattle.tp_placing.proofs.ReadingFacts.{same-size-then}
+use Rattle.tp_placing.proofs.NetworkFacts.{same-size-then}
 use Rattle.tp_placing.proofs.kept_points.add_points.Goals as goal
 
 pub loop-plan-preserved : goal.loop-plan-preserved

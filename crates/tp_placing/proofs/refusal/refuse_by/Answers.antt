@@ -1,5 +1,5 @@
 use Rattle.std.proofs.lemmas.List.{take_all, take-append-le}
-use Rattle.tp_placing.proofs.ReadingFacts.{same-marks}
+use Rattle.tp_placing.proofs.NetworkFacts.{same-marks}
 use Rattle.std.proofs.Common.{arith, take, ◌≡◌, ◌∙◌, ap, subst, sym, pos, length}
 use Rattle.tp_base.specs.Net.{HasLeast, with_edge}
 use Rattle.tp_base.proofs.MarkFacts.{last_mark}

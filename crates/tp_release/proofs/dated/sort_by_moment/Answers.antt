@@ -1,4 +1,4 @@
--- The sort is stable, so that it gives what is told by moment.
+-- The sort is stable, so that it gives what is reported by moment.
 use Rattle.std.proofs.Common.{rules}
 use Rattle.std.proofs.lemmas.List.Sorted.{IsNonDecreasingBy-from_sort, answers_always}
 use Rattle.tp_release.proofs.SortedTells.{by_moment-sorted}

@@ -1,4 +1,4 @@
--- One plan more is told of.
+-- One plan more is reported of.
 use Rattle.std.proofs.Common.{◌++◌, ◌∙◌, ap, sym, take, flat_map}
 use Rattle.std.proofs.lemmas.List.{flat_map_more}
 use Rattle.tp_base.proofs.SliceFacts.{All-at}

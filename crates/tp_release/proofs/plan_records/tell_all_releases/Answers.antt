@@ -1,4 +1,4 @@
--- One plan more is told of.
+-- One plan more is reported of.
 use Rattle.std.proofs.Common.{◌+◌, ◌++◌, ◌<◌, ◌∙◌, ap, arith, sym, refl, take, flat_map}
 use Rattle.std.proofs.lemmas.List.{flat_map_more}
 use Rattle.std.proofs.lemmas.Option.{get_or_from_slice_get, slice_get_within}

@@ -1,4 +1,4 @@
--- One action more is told of where it is due, and none is due that is released.
+-- One action more is reported of where it is due, and none is due that is released.
 use Rattle.std.proofs.Common.{◌≡◌, ◌∙◌, ◌++◌, ap, sym, arith, map}
 use Rattle.std.proofs.lemmas.List.{append-nil}
 use Rattle.std.proofs.lemmas.Option.{get_or_from_slice_get}

@@ -1,4 +1,4 @@
--- The copy at the place is told of.
+-- The copy at the place is reported of.
 use Rattle.std.proofs.Common.{◌++◌, ◌∙◌, List, ap, arith, flat_map}
 use Rattle.std.proofs.lemmas.List.{take_all}
 use Rattle.tp_base.proofs.SliceFacts.{All-at}

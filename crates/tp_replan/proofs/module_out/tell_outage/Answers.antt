@@ -1,4 +1,4 @@
--- The lost copies are told of first.
+-- The lost copies are reported of first.
 use Rattle.std.proofs.Common.{◌++◌, ◌∙◌, ap, map, append_assoc}
 use Rattle.tp_event_rules.specs.Fates.{told_by}
 use Rattle.tp_event_rules.specs.LiveStates.{seen}

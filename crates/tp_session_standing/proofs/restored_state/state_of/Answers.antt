@@ -1,4 +1,4 @@
--- Each part is the one that is told.
+-- Each part is the one that is given.
 use Rattle.std.proofs.Common.{◌≡◌, ◌∙◌, ℕ, List, Option, ap, ℤ}
 use Rattle.tp_jobs.specs.Backlogs.{unmarked}
 use Rattle.tp_jobs.specs.declared.standing.Standing.{Standing}

@@ -1,4 +1,4 @@
--- Plans that are told in their order, and then the copies that wait.
+-- Plans that are given in their order, and then the copies that wait.
 use Rattle.std.proofs.Common.{ℕ, List, sym, ap, subst, ◌∙◌}
 use Rattle.serde_json.specs.View.{view}
 use Rattle.tp_schedule.specs.declared.parts.Plan.{Plan}

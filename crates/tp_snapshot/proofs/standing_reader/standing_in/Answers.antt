@@ -1,4 +1,4 @@
--- The moment, the jobs and the copies are told in turn, and the copies can wait.
+-- The moment, the jobs and the copies are given in turn, and the copies can wait.
 use Rattle.std.proofs.Common.{List, [], sym, subst, ◌∙◌}
 use Rattle.serde_json.specs.View.{view}
 use Rattle.tp_jobs.specs.declared.parts.Job.{Job}

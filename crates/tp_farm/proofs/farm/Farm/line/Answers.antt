@@ -4,7 +4,7 @@ use Rattle.std.proofs.lemmas.List.{length-map}
 use Rattle.std.proofs.lemmas.Result.{on_ok_weaker}
 use Rattle.tp_farm.specs.Farms.{TellsFrom, farm_of}
 use Rattle.tp_farm.proofs.Gathered.{line-sent}
-use Rattle.tp_farm.proofs.SendingFacts.{farm-after, farm-few, farm-probed, same-length}
+use Rattle.tp_farm.proofs.SentEvents.{farm-after, farm-few, farm-probed, same-length}
 use Rattle.tp_farm.proofs.farm.Farm.line.Goals as goal
 
 pub send-requires-clause-few : goal.send-requires-clause-few

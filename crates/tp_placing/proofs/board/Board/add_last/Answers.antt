@@ -11,7 +11,7 @@ use Rattle.tp_placing.specs.Boards.{past_of, side_by_side}
 use Rattle.tp_placing.specs.AddedEdges.{IsBehind, KeepEdges}
 use Rattle.tp_placing.specs.LoadedHolds.{held_from, ticks_in}
 use Rattle.tp_placing.specs.LoadedBoard.{loaded_edges}
-use Rattle.tp_placing.proofs.AddingFacts.{AreOwn, CanPut, HasFewPoints, LoadPlans, can-put, few-more, load-all, own-are}
+use Rattle.tp_placing.proofs.AddedPlanFacts.{AreOwn, CanPut, HasFewPoints, LoadPlans, can-put, few-more, load-all, own-are}
 use Rattle.tp_placing.proofs.BehindFacts.{one-behind}
 use Rattle.tp_placing.proofs.BoardFacts.{board-firsts, board-step}
 use Rattle.tp_placing.proofs.FollowFacts.{no-past}

@@ -2,7 +2,7 @@ use Rattle.std.proofs.Common.{arith, sym, ◌∙◌, ap, length, ◌∷◌, []}
 use Rattle.std.proofs.lemmas.List.{length-append}
 use Rattle.tp_timelines.specs.Orders.{Sizes}
 use Rattle.tp_placing.proofs.PastFacts.{length-side, side-push, marks-push}
-use Rattle.tp_placing.proofs.ReadingFacts.{can-mark, same-marks}
+use Rattle.tp_placing.proofs.NetworkFacts.{can-mark, same-marks}
 use Rattle.tp_placing.proofs.undo.BoardUndo.mark.Goals as goal
 
 pub mark-mark-requires : goal.mark-mark-requires

@@ -3,7 +3,7 @@ use Rattle.std.proofs.lemmas.List.{length-take-le}
 use Rattle.std.proofs.lemmas.Option.{slice_get_read}
 use Rattle.tp_timelines.specs.Orders.{Sizes}
 use Rattle.tp_placing.proofs.PastFacts.{length-side, side-get, side-take, marks-undone}
-use Rattle.tp_placing.proofs.ReadingFacts.{can-undo, same-marks}
+use Rattle.tp_placing.proofs.NetworkFacts.{can-undo, same-marks}
 use Rattle.tp_placing.proofs.undo.BoardUndo.undo_to.Goals as goal
 
 within : goal.undo_to-requires

@@ -22,7 +22,7 @@ take_turn-result-requires-clause-stocked g c =
     subst (KeepsStock c.self.inside.machine last_copy) (sym c.in_ok-before.ensures.stays)
     (stock-more c.self.inside.machine (2 + c.self.inside.answered) last_copy (seen c.self.inside.state) (omega (arith, c.self.invariant.within)) c.self.invariant.stocked)
 
--- the turn that is told, with the budget and the bounds of the session, and what is kept of a state that can be saved
+-- the turn that is reported, with the budget and the bounds of the session, and what is kept of a state that can be saved
 pub returns-in-Ok-clause-told : goal.returns-in-Ok-clause-told
 returns-in-Ok-clause-told g c =
     let i = c.self.inside in

@@ -1,4 +1,4 @@
--- What was told of the live part, with the engine's nodes, is told of the session.
+-- What was found of the live part, with the engine's nodes, is found of the session.
 use Rattle.std.proofs.Common.{ℕ, ◌+◌, arith, subst}
 use Rattle.tp_event_rules.specs.LiveStates.{seen}
 use Rattle.tp_session.specs.Probes.{Probes}
