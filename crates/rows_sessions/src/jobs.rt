@@ -61,6 +61,7 @@ fn add(lines: &mut Lines, machine: &Machine, job: &Event) -> Result<u32, JobFaul
             media,
             groups,
         } => {
+            // For the prover: brings length groups < 2^32.
             let _count = groups.len();
             lines.add(machine, *name, *tray, *media, groups.as_slice())
         }

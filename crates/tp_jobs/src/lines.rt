@@ -126,6 +126,7 @@ impl Lines {
     pub fn kept(&self)
         ensures { IsBacklog self.now }
     {
+        // For the prover: brings what every value keeps.
         let _ = self.names.len();
     }
 

@@ -1,4 +1,5 @@
-//! What holds of every record, as its parts are. The calls change nothing: their contracts are the laws.
+//! What holds of every record, as its parts are. The calls change nothing: their contracts are the laws. For the prover: a value
+//! that is read brings what its type keeps.
 
 ghost use Rattle.std.specs.List.{AllByRecursion};
 ghost use Rattle.tp_bounds.specs.Sheets.{IsSheet};

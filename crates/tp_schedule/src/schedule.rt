@@ -81,6 +81,7 @@ impl Schedule {
         ensures ordered { IsOrdered self.now.plans }
         ensures fits { length self.now.plans < 2 ^ 32 }
     {
+        // For the prover: brings what every value keeps.
         let _ = &self.plans;
     }
 

@@ -116,6 +116,7 @@ pub(crate) fn first_ask(machine: &Machine, state: &LiveState, event: &Event) -> 
             media,
             groups,
         } => {
+            // For the prover: brings length groups < 2^32.
             let _count = groups.len();
             ask_for_job(machine, state, name, tray, media, groups.as_slice())
         }
