@@ -29,7 +29,7 @@ none_by : (resource : ℕ) (from to : Spot) (rules : List HoldRule) → All (Not
 none_by resource from to [] all = refl
 none_by resource from to (h ∷ rules) all = rw (All-head (NotOn resource) h rules all) (none_by resource from to rules (All-tail (NotOn resource) h rules all))
 
-none_held : (resource start end tick : ℕ) (rules : List HoldRule) → All (NotOn resource) rules → list_any (λ h. is_held_by h resource start end tick) rules ≡ false
+pub none_held : (resource start end tick : ℕ) (rules : List HoldRule) → All (NotOn resource) rules → list_any (λ h. is_held_by h resource start end tick) rules ≡ false
 none_held resource start end tick [] all = refl
 none_held resource start end tick (h ∷ rules) all = rw (All-head (NotOn resource) h rules all) (none_held resource start end tick rules (All-tail (NotOn resource) h rules all))
 

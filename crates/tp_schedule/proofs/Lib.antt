@@ -8,6 +8,7 @@ pub mod SlotOrder
 pub mod CoveredTicks
 pub mod HeldCount
 pub mod HeldModes
+pub mod HolderFacts
 pub mod SpreadFacts
 pub mod LegalOrders
 pub mod LegalFacts

@@ -52,6 +52,21 @@ hold_of run = record { sheet = run.sheet; act = run.number }
 abbrev pub held : Machine → List Plan → ℕ → ℕ → List Hold
 held machine plans resource tick = map hold_of (filter (holds_at machine resource tick) (runs plans))
 
+-- a holder of a resource: a copy, the number of its action, and the mode in which that holds
+pub record Holder : Type 0 where
+  pub hold : Hold
+  pub mode : ℕ
+
+abbrev pub holder_of : Run → HoldRule → Holder
+holder_of run h = record { hold = hold_of run; mode = mode_of h }
+
+-- the holders of the resource at the tick, one for each hold that covers it
+abbrev pub holders_in : Machine → ℕ → ℕ → Run → List Holder
+holders_in machine resource tick run = map (holder_of run) (filter (λ h. is_held_by h resource run.start run.end tick) (holds_of_act (action_at machine run.act.0)))
+
+abbrev pub holders : Machine → List Plan → ℕ → ℕ → List Holder
+holders machine plans resource tick = flat_map (holders_in machine resource tick) (runs plans)
+
 -- a hold of an action of the plans is on the resource, covers the tick, and has this mode
 pub record IsHeldIn (machine : Machine) (plans : List Plan) (resource tick mode : ℕ) : Type 0 where
   pub plan : Plan

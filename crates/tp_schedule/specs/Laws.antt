@@ -1,5 +1,6 @@
 -- Laws that show that the definitions fit one another.
-use Rattle.std.specs.Prelude.{◌≡◌, ◌↔◌, ℕ, ◌≤◌, List, length, Some, All, AllPairs, IsTrue, IsPermutation}
+use Rattle.std.specs.Prelude.{◌≡◌, ◌↔◌, ℕ, ◌≤◌, List, length, map, Some, All, AllPairs, Contains, IsTrue, IsPermutation}
+use Rattle.tp_machine.specs.Machines.{IsMachine}
 use Rattle.tp_machine.specs.Modes.{gap_at}
 use Rattle.tp_machine.specs.Steps.{Step, step_of}
 use Rattle.tp_machine.specs.ModuleUse.{action_at, IsAllowed}
@@ -11,7 +12,7 @@ use Rattle.tp_machine.specs.declared.parts.State.{State}
 use Rattle.tp_machine.specs.declared.machine.Machine.{Machine}
 use Rattle.tp_schedule.specs.Routes.{IsRoom, is_act_allowed}
 use Rattle.tp_schedule.specs.Plans.{IsTimedPlan, IsEarlier, without, end_of_plan}
-use Rattle.tp_schedule.specs.Holders.{held}
+use Rattle.tp_schedule.specs.Holders.{Holder, IsHeldIn, held, holders}
 use Rattle.tp_schedule.specs.Legality.{IsLegal, IsSpreadAt}
 use Rattle.tp_schedule.specs.Spots.{Ticks, Slot, IsApart, AreApart, IsRow, IsSoundSlot, slots, slot_order, ticks_of}
 use Rattle.tp_schedule.specs.Spots.Spot.{own}
@@ -35,6 +36,12 @@ LegalWithout = (machine : Machine) (copy : SheetId) (plans : List Plan) → IsLe
 abbrev pub OneHolderIsApart : Type 0
 OneHolderIsApart = (machine : Machine) (plans : List Plan) (resource : ℕ) → AllPairs IsEarlier plans → All (IsTimedPlan machine) plans
     → (((tick : ℕ) → length (held machine plans resource tick) ≤ 1) × ((tick : ℕ) → IsSpreadAt machine plans resource tick)) ↔ AllPairs (AreApart (gap_at machine resource) (ticks_of plans)) (slots machine resource plans)
+
+-- the copies that hold a resource are those of its holders, and it is held in a mode exactly where a holder has it
+abbrev pub HeldByHolders : Type 0
+HeldByHolders = (machine : Machine) (plans : List Plan) (resource tick : ℕ) → IsMachine machine
+    → (held machine plans resource tick ≡ map (λ (h : Holder). h.hold) (holders machine plans resource tick))
+    × ((mode : ℕ) → IsHeldIn machine plans resource tick mode ↔ ((h : Holder) × Contains (holders machine plans resource tick) h × (h.mode ≡ mode)))
 
 -- neighbours that are apart make all apart
 abbrev pub RowIsApart : Type 0

@@ -1,10 +1,15 @@
 //! The definitions fit one another. Each call does nothing: its contract is the law.
-ghost use Rattle.tp_schedule.specs.Laws.{OrderIsOnly, LegalWithout, OneHolderIsApart, RowIsApart, RoomIsOne, EarliestEndIsOne, StepIsComputed, AllowedIsTested, OpenLeavesRoom, RoomOpens};
+ghost use Rattle.tp_schedule.specs.Laws.{OrderIsOnly, LegalWithout, OneHolderIsApart, RowIsApart, RoomIsOne, EarliestEndIsOne, StepIsComputed, AllowedIsTested, HeldByHolders, OpenLeavesRoom, RoomOpens};
 
 /// The order of a resource is the only list of its holds that is apart, and neighbours apart means all apart.
 pub fn order_law()
     ensures only { OrderIsOnly }
     ensures row { RowIsApart }
+{}
+
+/// The holders of a resource, each a copy, the number of its action and a mode, say by whom and in which modes it is held.
+pub fn holders_law()
+    ensures { HeldByHolders }
 {}
 
 /// At most one holder at every tick means holds that are pairwise apart, and a legal schedule less one plan is legal.

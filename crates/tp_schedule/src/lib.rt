@@ -19,7 +19,7 @@ mod start_states;
 pub use copies::{copy_place, is_earlier};
 pub use goals::{finished, is_goal};
 pub use holders::is_plan_live;
-pub use laws::{action_law, legal_law, order_law, room_law, unique_law};
+pub use laws::{action_law, holders_law, legal_law, order_law, room_law, unique_law};
 pub use parts::{Ask, Empties, Goal, Halt, Hold, Kind, Origin, Plan, Reply, SheetId};
 pub use planner::Planner;
 pub use records::{Cause, Record, SheetName};
