@@ -15,6 +15,7 @@ pub mod BuiltLists
 pub mod TreeBounds
 pub mod LiveTrees
 pub mod Flawless
+pub mod ClosedTrees
 pub mod ApartStarts
 pub mod AllowedHops
 pub mod AllowedOrderHops

@@ -3,6 +3,7 @@
 #![tactic(auto)]
 
 ghost use Rattle.tp_bound_laws.specs.Claims.{TreeTells};
+ghost use Rattle.tp_bound_laws.specs.Closed.{TreesAreCovers};
 ghost use Rattle.tp_bound_laws.specs.Flaws.{FlawlessIsBound};
 ghost use Rattle.tp_bound_laws.specs.Laws.{TreeBounds};
 ghost use Rattle.tp_bound_laws.specs.Short.{FewHopsMakeShortLines};
@@ -17,6 +18,12 @@ pub use claim::{Claim, TreeFlaw};
 pub fn trees_show_bounds()
     ensures bounds { TreeBounds }
     ensures tells { TreeTells }
+{}
+
+/// The nodes that a check takes one by one for what is due are those of the trees there: each closed by dead, chain or
+/// loop, or split with exactly the children that are listed there.
+pub fn closed_trees_are_bound()
+    ensures { TreesAreCovers }
 {}
 
 /// The bound trees are those without a flaw.
