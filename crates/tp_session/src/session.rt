@@ -278,7 +278,8 @@ impl<N: Network> SessionOver<N> {
         Ok(())
     }
 
-    /// The board that asks are answered on, as the last one left it.
+    /// The board that asks are answered on, as the last one left it. After an event that ended with want of memory it may show
+    /// plans of that event, which the state does not have.
     pub fn board(&self) -> &Board<N>
         ensures { result.now ≡ self.now.engine.board }
     {
