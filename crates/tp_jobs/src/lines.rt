@@ -9,7 +9,9 @@ use crate::blocked::Blocked;
 use crate::fault::JobFault;
 use crate::given_lists::{list_of, names_of, rows_of};
 use crate::job_check::{count_sheets, find_tray, has_feeder};
-use crate::line_changes::{break_in, keep_waiting, make_whole, wait_again};
+use crate::line_changes::{
+    break_in, copy_broken, copy_waiting, keep_waiting, make_whole, put_job, wait_again,
+};
 use crate::new_copies::make_copies;
 use crate::parts::{Job, WaitingCopy};
 use crate::standing::{JobRows, WaitRows};
@@ -184,17 +186,14 @@ impl Lines {
     pub fn copy(&self, alloc: Global) -> Result<Lines, Memory>
         ensures { IfOk result (λ copy. copy ≡ self.now) }
     {
-        let mut waiting = Vec::new(alloc);
-        keep_waiting(&mut waiting, &self.waiting)?;
-        waiting.reserve(self.kept_waiting.len())?;
-        let mut broken = Vec::from_slice(alloc, self.broken.as_slice())?;
-        broken.reserve(self.jobs.len())?;
+        let waiting = copy_waiting(alloc, &self.waiting, self.kept_waiting.len())?;
+        let broken = copy_broken(alloc, self.broken.as_slice(), self.jobs.len())?;
         Ok(Lines {
             jobs: Vec::from_slice(alloc, self.jobs.as_slice())?,
             kept_waiting: Vec::from_slice(alloc, self.kept_waiting.as_slice())?,
             // For the prover: names come last, since each exit after them proves their drop again.
             names: copy_names(&self.names)?,
-            waiting: VecDeque::from_vec(waiting),
+            waiting,
             kept_jobs: self.kept_jobs,
             broken,
         })
@@ -248,18 +247,19 @@ impl Lines {
         let number = self.jobs.len() as u32;
         let copies = make_copies(*self.jobs.allocator(), number, media, groups)?;
         let mut copies = VecDeque::from_vec(copies);
-        self.jobs.reserve(1)?;
-        self.waiting.reserve(copies.len())?;
-        self.broken.reserve(self.jobs.len() + 1)?;
-        self.names.insert(name)?;
         let job = Job {
             name,
             tray,
             broken: false,
         };
-        if self.jobs.push(job).is_err() || self.waiting.append(&mut copies).is_err() {
-            unreachable!();
-        }
+        put_job(
+            &mut self.names,
+            &mut self.jobs,
+            &mut self.waiting,
+            &mut self.broken,
+            job,
+            &mut copies,
+        )?;
         Ok(number)
     }
 

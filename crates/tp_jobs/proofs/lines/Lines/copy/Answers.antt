@@ -12,17 +12,15 @@ invariant_of-result c =
     let kept = c.self.invariant in
     let jobs : c.in_ok-from_slice.field-0.items ≡ lines.jobs.items = search rules in
     let names : c.in_ok-copy_names.field-0.keys ≡ lines.names.keys = c.in_ok-copy_names.ensures in
-    let waiting : c.from_vec.result.items ≡ lines.waiting.items = search rules in
+    let waiting : c.in_ok-waiting.waiting.items ≡ lines.waiting.items = c.in_ok-waiting.ensures.waits in
     let waited : c.in_ok-from_slice-2.field-0.items ≡ lines.kept_waiting.items = search rules in
-    let broken : c.reserve-2.new.self.items ≡ lines.broken.items = search rules in
-    let many : length lines.broken.items ≡ vec_len lines.broken = search rules in
-    let many' : length c.reserve-2.new.self.items ≡ vec_len c.reserve-2.new.self = search rules in
+    let broken : c.in_ok-broken.broken.items ≡ lines.broken.items = search rules in
     let jobs-len : vec_len lines.jobs ≡ length lines.jobs.items = search rules in
     let waited-len : vec_len lines.kept_waiting ≡ length lines.kept_waiting.items = search rules in
     record {
       now = same-keeps _ _ _ _ _ _ (sym names) (sym jobs) (sym waiting) kept.now;
       then = same-keeps _ _ _ _ _ _ (ap (take lines.kept_jobs) (sym names)) (λ k. jobs_then lines.kept_jobs (sym broken k) (sym jobs k)) (sym waited) kept.then;
       came = omega (arith, kept.came, ap length jobs);
-      to_break = omega (arith, broken, count_by-le-length (λ (j : Job). not j.broken) c.in_ok-from_slice.field-0.items, ap length jobs, c.in_ok-reserve-2.ensures.ok);
-      to_wait = omega (arith, ap length waited, c.in_ok-reserve.ensures.ok, c.from_vec.ensures.capacity);
+      to_break = omega (arith, count_by-le-length (λ (j : Job). not j.broken) c.in_ok-from_slice.field-0.items, ap length jobs, c.in_ok-broken.ensures.room);
+      to_wait = omega (arith, ap length waited, c.in_ok-waiting.ensures.room);
     }
