@@ -4,7 +4,10 @@ use Rattle.std.specs.List.{count_by}
 use Rattle.std.proofs.lemmas.List.{length-map, length-take-le, take-append-le, take_all}
 use Rattle.std.proofs.lemmas.List.Sums.{sum_by-cons}
 use Rattle.tp_jobs.proofs.WholeFacts.{length-all_whole}
+use Rattle.tp_machine.specs.declared.parts.Sheet.{Sheet}
+use Rattle.tp_jobs.specs.Backlogs.{Backlog}
 use Rattle.tp_jobs.specs.LineInvariants.{Keeps, jobs_then, mark_all_whole, mark_whole, whole_count}
+use Rattle.tp_jobs.specs.WaitingCopies.{first_copies, with_job}
 use Rattle.tp_jobs.specs.declared.parts.Job.{Job}
 use Rattle.tp_jobs.specs.declared.parts.WaitingCopy.{WaitingCopy}
 
@@ -23,6 +26,16 @@ keeps-then_job came ns names jobs waiting waited name job keeps within then =
     let same = take-append-le came names (name ∷ []) (omega arith) in
     let same' = then-job came ns jobs job within in
     rw (same, same') then
+
+abbrev lines-of : ℕ → List ℕ → List Job → List WaitingCopy → List WaitingCopy → Backlog
+lines-of came ns jobs waiting waited = record { jobs = jobs; waiting = waiting; kept = record { jobs = jobs_then came ns jobs; waiting = waited } }
+
+-- the lines of parts to which a job and its copies were added are the lines with that job
+pub with-job : (came : ℕ) (ns ns' : List ℕ) (jobs jobs' : List Job) (waiting waiting' waited : List WaitingCopy) (job : Job) (wants : List Sheet) → came ≤ length jobs → ns' ≡ ns → jobs' ≡ jobs ++ job ∷ []
+    → waiting' ≡ waiting ++ first_copies (length jobs) 1 wants → lines-of came ns' jobs' waiting' waited ≡ with_job job wants (lines-of came ns jobs waiting waited)
+with-job came ns ns' jobs jobs' waiting waiting' waited job wants within broken more waits =
+    let then : jobs_then came ns' jobs' ≡ jobs_then came ns jobs = (λ k. jobs_then came (broken k) (more k)) ∙ then-job came ns jobs job within in
+    λ k. record { jobs = more k; waiting = waits k; kept = record { jobs = then k; waiting = waited } }
 
 -- to go back twice is to go back once
 pub then-then : (came : ℕ) (ns : List ℕ) (jobs : List Job) → came ≤ length jobs → jobs_then came [] (jobs_then came ns jobs) ≡ jobs_then came ns jobs

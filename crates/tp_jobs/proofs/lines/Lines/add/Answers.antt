@@ -1,14 +1,15 @@
 -- The new job's name is the last, and its copies wait behind all others.
-use Rattle.std.proofs.Common.{◌≡◌, ◌+◌, ◌<◌, ◌≤◌, ◌^◌, ◌++◌, ◌∷◌, [], length, not, refl, ap, sym, take, arith, rules}
+use Rattle.std.proofs.Common.{◌≡◌, ◌+◌, ◌<◌, ◌≤◌, ◌^◌, ◌++◌, ◌∷◌, [], length, false, not, refl, ap, sym, take, ◌∙◌, arith, rules}
 use Rattle.std.proofs.lemmas.List.{length-append}
 use Rattle.std.proofs.lemmas.List.Sums.{count_by-le-length}
 use Rattle.tp_jobs.proofs.FirstCopies.{length-sheets_of}
 use Rattle.tp_jobs.proofs.KeptFacts.{keeps-job, same-keeps}
-use Rattle.tp_jobs.proofs.MarkFacts.{keeps-then_job}
+use Rattle.tp_jobs.proofs.MarkFacts.{keeps-then_job, with-job}
 use Rattle.tp_jobs.proofs.RefusalFacts.{accepted}
+use Rattle.tp_jobs.specs.Backlogs.{Backlog}
 use Rattle.tp_jobs.specs.LineInvariants.{jobs_then, whole_count}
-use Rattle.tp_jobs.specs.JobRefusals.{sheet_count}
-use Rattle.tp_jobs.specs.WaitingCopies.{first_copies, sheets_of}
+use Rattle.tp_jobs.specs.JobRefusals.{sheet_count, tray_named}
+use Rattle.tp_jobs.specs.WaitingCopies.{first_copies, given_tray, new_job, sheets_of, with_job}
 use Rattle.tp_jobs.specs.declared.parts.Job.{Job}
 use Rattle.tp_jobs.proofs.lines.Lines.add.Goals as goal
 
@@ -58,3 +59,16 @@ invariant_of-self-2 c =
       to_break = omega (arith, count_by-le-length (λ (j : Job). not j.broken) c.put_job.new.jobs.items, c.in_ok-put_job.ensures.room);
       to_wait = omega (arith, kept.to_wait, c.put_job.ensures.to_wait);
     }
+
+pub returns-clause-added : goal.returns-clause-added
+returns-clause-added c =
+    let lines = c.self.inside in
+    let job = new_job c.args.machine.now c.args.name c.args.tray c.args.groups.now in
+    let wants = sheets_of c.args.media c.args.groups.now in
+    let tray : c.in_ok-tray.tray ≡ given_tray (tray_named c.args.machine.now c.args.tray) = sym (ap given_tray c.in_ok-tray.ensures.tray) in
+    let jobs : c.put_job.new.jobs.items ≡ lines.jobs.items ++ job ∷ [] =
+    c.in_ok-put_job.ensures.jobs ∙ (λ k. lines.jobs.items ++ record { name = c.args.name; tray = tray k; broken = false } ∷ []) in
+    let waiting : c.put_job.new.waiting.items ≡ lines.waiting.items ++ first_copies (length lines.jobs.items) 1 wants = search rules in
+    with-job lines.kept_jobs lines.broken.items c.put_job.new.broken.items lines.jobs.items c.put_job.new.jobs.items lines.waiting.items c.put_job.new.waiting.items lines.kept_waiting.items job wants c.self.invariant.came
+    c.put_job.ensures.broken jobs waiting
+    ∙ ap (λ (b : Backlog). with_job job wants b) c.self.view_is
