@@ -2,6 +2,7 @@ pub mod TableFacts
 pub mod RowSteps
 pub mod ChoiceFacts
 pub mod StandFacts
+pub mod PlaceStands
 pub mod FollowFacts
 pub mod LookFacts
 pub mod TakeFacts

@@ -1,13 +1,20 @@
 //! Where a node stands.
-ghost use Rattle.std.specs.Prelude.{◌≡◌, ℕ, ◌+◌, ◌<◌, ◌≤◌, ◌==◌, [], ◌∷◌, ◌++◌, length, slice_get, Some, None, Option, IfOk, IfErr, IfSome, List};
+ghost use Rattle.std.specs.Prelude.{◌≡◌, ℕ, ◌+◌, ◌<◌, ◌≤◌, ◌==◌, ◌&&◌, nat_le, [], ◌∷◌, ◌++◌, length, slice_get, Some, None, Option, IfOk, IfErr, IfSome, List};
+ghost use Rattle.tp_bound_check.specs.Branches.{newest_in};
 ghost use Rattle.tp_bound_check.specs.Frames.{IsOn, IsShallow, IsShallowStand};
 ghost use Rattle.tp_bound_check.specs.Looks.{IsFaultOf, IsSoundFrame, at_depth, dues_of};
 ghost use Rattle.tp_bound_check.specs.Ranks as ranking;
 ghost use Rattle.tp_bound_check.specs.Ranks.{AreRanked, IsFrameOf, IsSoundStand, next_number};
+ghost use Rattle.tp_bounds.specs.declared.tree.TreeRow.{TreeRow};
+ghost use Rattle.tp_machine.specs.Limits.{most_act_holds};
+ghost use Rattle.tp_machine.specs.declared.machine.Machine.{Machine};
 ghost use Rattle.tp_machine.specs.declared.parts.State.{State};
 ghost use Rattle.tp_machine.specs.ModuleUse.{action_at};
+ghost use Rattle.tp_schedule.specs.Choices.{Choice};
 ghost use Rattle.tp_schedule.specs.Limits.{most_acts};
-ghost use Rattle.tp_bound_laws.specs.Places.{Due, due_behind, is_name_of_act, is_name_of_resource, next_rule, order_length, room_at, stand_of};
+ghost use Rattle.tp_schedule.specs.declared.parts.Ask.{Ask};
+ghost use Rattle.tp_schedule.specs.declared.parts.Plan.{Plan};
+ghost use Rattle.tp_bound_laws.specs.Places.{Due, at_places, due_behind, is_name_of_act, is_name_of_resource, next_rule, order_length, room_at, stand_of};
 ghost use Rattle.tp_bound_laws.specs.Places.Due.{goal, action, places, stop};
 ghost use Rattle.tp_bound_laws.specs.Trees.{look};
 ghost use Rattle.tp_bound_laws.specs.Trees.Look.{due};
@@ -27,6 +34,33 @@ fn alone(branch: Branch) -> Stand
     ensures { result ≡ record { branch = branch; span = None } }
 {
     Stand { branch, span: None }
+}
+
+/// The stand of a node of this depth at the places from `from` to `to`.
+fn stand_at(branch: &Branch, rule: HoldRule, from: u32, to: u32, depth: u32) -> Stand
+    requires depth { depth ≡ branch.now.depth + 1 }
+    requires some { 0 < length branch.now.x.choices }
+    requires few { (c : Choice) → newest_in branch.now.x.choices ≡ Some c
+        → length c.places < most_act_holds }
+    ensures stand { (machine : Machine) (plans : List Plan) (ask : Ask) (rows : List TreeRow)
+        → result ≡ at_places machine plans ask rows branch.now rule from to }
+    ensures shallow { IsShallow branch.now → IsShallowStand result }
+    ensures deeper { result.branch.depth ≡ branch.now.depth + 1 }
+    ensures grows { next_number branch.now.x.choices ≤ next_number result.branch.x.choices }
+{
+    if from == to {
+        alone(branch.place(depth, from))
+    } else {
+        let span = Span {
+            rule,
+            lo: from,
+            hi: to,
+        };
+        Stand {
+            branch: branch.deeper(depth),
+            span: Some(span),
+        }
+    }
 }
 
 impl<'a> CheckScene<'a> {
@@ -154,6 +188,29 @@ impl<'a> CheckScene<'a> {
         }
     }
 
+    /// Returns whether a node of this name has the places that are due from `lo` on.
+    fn are_places(
+        &self,
+        branch: &Branch,
+        rule: HoldRule,
+        lo: u64,
+        name: &Name,
+        from: u32,
+        to: u32,
+    ) -> bool
+        requires next { next_rule self.now.rows.machine.now branch.now.x ≡ Some rule }
+        ensures { result ≡ (is_name_of_resource self.now.rows.machine.now self.now.plans.now
+            self.now.rows.ask.now self.now.rows.rows.now name.now (slice_get
+            self.now.rows.machine.now.resources rule.resource.0) && (from == lo)
+            && nat_le from to && nat_le to (order_length self.now.rows.machine.now
+            self.now.plans.now self.now.rows.ask.now self.now.rows.rows.now branch.now rule)) }
+    {
+        self.is_name_of_resource(rule.resource, name)
+            && u64::from(from) == lo
+            && from <= to
+            && u64::from(to) <= self.order_length(branch, rule)
+    }
+
     pub(crate) fn place_stand(
         &self,
         branch: &Branch,
@@ -180,28 +237,14 @@ impl<'a> CheckScene<'a> {
         else {
             return None;
         };
-        let named = self.is_name_of_resource(rule.resource, resource);
-        let deeper = u64::from(depth) == u64::from(branch.depth()) + 1;
-        if !(named && u64::from(*from) == lo && *from <= *to && deeper) {
+        if u64::from(depth) != u64::from(branch.depth()) + 1 {
             return None;
         }
-        if u64::from(*to) > self.order_length(branch, rule) {
+        if !self.are_places(branch, rule, lo, resource, *from, *to) {
             return None;
         }
         rule_law(self.rows.machine, branch, rule);
-        if *from == *to {
-            Some(alone(branch.place(depth, *from)))
-        } else {
-            let span = Span {
-                rule,
-                lo: *from,
-                hi: *to,
-            };
-            Some(Stand {
-                branch: branch.deeper(depth),
-                span: Some(span),
-            })
-        }
+        Some(stand_at(branch, rule, *from, *to, depth))
     }
 
     /// What is due below a node that stands here, if it stands anywhere, or what is wrong with it.
