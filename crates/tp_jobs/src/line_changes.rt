@@ -65,8 +65,8 @@ pub(crate) fn put_job(
     copies: &mut VecDeque<WaitingCopy>,
 ) -> Result<(), Memory>
     requires { list_any (bytes_eq job.name) names.old.keys ≡ false }
-    ensures names { OnOk result (names.new.keys ≡ names.old.keys ++ job.name ∷ []) }
-    ensures distinct { OnOk result (IsDistinct bytes_eq names.new.keys) }
+    ensures names { OnOk result ((names.new.keys ≡ names.old.keys ++ job.name ∷ [])
+        × IsDistinct bytes_eq names.new.keys) }
     ensures jobs { OnOk result (jobs.new.items ≡ jobs.old.items ++ job ∷ []) }
     ensures waiting { OnOk result (waiting.new.items ≡ waiting.old.items ++ copies.old.items) }
     ensures room { OnOk result (vec_len broken.new + length jobs.new.items

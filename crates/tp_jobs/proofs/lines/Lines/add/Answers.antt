@@ -37,13 +37,13 @@ pub invariant_of-self-2 : goal.invariant_of-self-2
 invariant_of-self-2 c =
     let ok = accepted c.args.machine.now c.args.self.now.jobs (length c.args.self.now.waiting) c.args.name c.args.tray c.args.media c.args.groups.now c.in_ok-tray.ensures.refused in
     let job : Job = record { name = c.args.name; tray = c.in_ok-tray.tray; broken = false } in
-    let keys = c.in_ok-put_job.ensures.names in
+    let keys = c.in_ok-put_job.ensures.names.0 in
     let jobs : c.put_job.new.jobs.items ≡ c.self.inside.jobs.items ++ job ∷ [] = c.in_ok-put_job.ensures.jobs in
     let waiting : c.put_job.new.waiting.items ≡ c.self.inside.waiting.items ++ first_copies (length c.self.inside.jobs.items) 1 (sheets_of c.args.media c.args.groups.now) = search rules in
     let room : length c.self.inside.jobs.items + 1 < 2 ^ 32 = rw (← c.self.view_is) at c.requires.jobs in
     let few : length c.self.inside.waiting.items + sheet_count c.args.groups.now ≤ 4096 = rw (← c.self.view_is) at ok.few in
     let all =
-    keeps-job c.self.inside.names.keys c.self.inside.jobs.items c.self.inside.waiting.items job (sheets_of c.args.media c.args.groups.now) c.put_job.new.names.keys c.self.invariant.now keys c.in_ok-put_job.ensures.distinct
+    keeps-job c.self.inside.names.keys c.self.inside.jobs.items c.self.inside.waiting.items job (sheets_of c.args.media c.args.groups.now) c.put_job.new.names.keys c.self.invariant.now keys c.in_ok-put_job.ensures.names.1
     room (omega (arith, length-sheets_of c.args.media c.args.groups.now)) in
     let kept = c.self.invariant in
     let names = c.self.inside.names.keys in
