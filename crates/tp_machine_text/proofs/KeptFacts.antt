@@ -88,6 +88,9 @@ module _ (t : Members) (k : KeepsRules t) where
   pub actions_counted : is_count 1 512 (length (text.actions t)) ≡ true
   actions_counted = (and_parts (is_count 1 512 (length (text.actions t))) (list_all is_table (text.actions t)) k.actions).0
 
+  pub few_actions : length (text.actions t) ≤ 512
+  few_actions = at_most (length (text.actions t)) 512 (and_parts (nat_le 1 (length (text.actions t))) (nat_le (length (text.actions t)) 512) actions_counted).1
+
   name_parts : (list_all is_named (text.actions t) ≡ true) × (are_different (map (text.action_name) (text.actions t)) ≡ true)
   name_parts = and_parts (list_all is_named (text.actions t)) (are_different (map text.action_name (text.actions t))) k.action_names
 

@@ -21,14 +21,19 @@ pub(crate) fn machine_of(alloc: Global, table: &Table) -> Result<Machine, Memory
     requires { KeepsRules (table_view table.now) }
     ensures { IfOk result (IsMachineOf (table_view table.now)) }
 {
-    let trays = trays(alloc, table)?;
-    let purges = purges(alloc, table)?;
-    let feeders = feeders(alloc, table)?;
-    let resources = resources(alloc, table)?;
-    let actions = actions(alloc, table)?;
-    // For the prover: names come last, since each exit after them proves their drop again.
-    let locations = locations(alloc, table)?;
-    let modules = modules(alloc, table)?;
+    let works = work_lists_of(alloc, table)?;
+    let names = name_lists_of(alloc, table)?;
+    let WorkLists {
+        feeders,
+        resources,
+        actions,
+    } = works;
+    let NameLists {
+        trays,
+        purges,
+        locations,
+        modules,
+    } = names;
     Ok(Machine {
         lead: number_at(table, "lead", 0),
         window: number_at(table, "window", 2000),
@@ -37,6 +42,76 @@ pub(crate) fn machine_of(alloc: Global, table: &Table) -> Result<Machine, Memory
         modules,
         trays,
         purges,
+        feeders,
+        resources,
+        actions,
+    })
+}
+
+/// The locations and modules of a machine, and the trays among its locations.
+#[derive(Drop)]
+struct NameLists {
+    trays: Items<LocId>,
+    purges: Items<LocId>,
+    locations: Names,
+    modules: Names,
+}
+
+fn name_lists_of(alloc: Global, table: &Table) -> Result<NameLists, Memory>
+    requires { KeepsRules (table_view table.now) }
+    ensures trays { IfOk result (λ g. g.trays
+        ≡ map (loc_of (text.locations (table_view table.now)))
+        (text.trays (table_view table.now))) }
+    ensures purges { IfOk result (λ g. g.purges
+        ≡ map (loc_of (text.locations (table_view table.now)))
+        (text.purges (table_view table.now))) }
+    ensures locations { IfOk result (λ g. g.locations ≡ text.locations (table_view table.now)) }
+    ensures modules { IfOk result (λ g. g.modules ≡ text.modules (table_view table.now)) }
+{
+    let trays = trays(alloc, table)?;
+    let purges = purges(alloc, table)?;
+    // For the prover: names come last, since each exit after them proves their drop again.
+    let locations = locations(alloc, table)?;
+    let modules = modules(alloc, table)?;
+    Ok(NameLists {
+        trays,
+        purges,
+        locations,
+        modules,
+    })
+}
+
+/// The feeders, the resources and the actions of a machine.
+#[derive(Drop)]
+struct WorkLists {
+    feeders: Items<Feeder>,
+    resources: Items<Resource>,
+    actions: Items<Action>,
+}
+
+fn work_lists_of(alloc: Global, table: &Table) -> Result<WorkLists, Memory>
+    requires { KeepsRules (table_view table.now) }
+    ensures feeders { IfOk result (λ m. m.feeders
+        ≡ feeders_of (text.locations (table_view table.now))
+        (text.stocks (table_view table.now))
+        (members_at (codes "feeders") (table_view table.now))) }
+    ensures feeders_rise { IfOk result (λ _. IsTrue
+        (do_names_rise (text.feeders (table_view table.now)))) }
+    ensures resources { IfOk result
+        (λ m. m.resources ≡ resources_of (text.modules (table_view table.now))
+        (text.gaps (table_view table.now))
+        (members_at (codes "resources") (table_view table.now))) }
+    ensures resources_rise { IfOk result (λ _.
+        IsTrue (do_names_rise (text.resources (table_view table.now)))) }
+    ensures actions { IfOk result (λ m. m.actions
+        ≡ map (action_of (text.locations (table_view table.now))
+        (text.modules (table_view table.now)) (text.resources (table_view table.now)))
+        (text.actions (table_view table.now))) }
+{
+    let feeders = feeders(alloc, table)?;
+    let resources = resources(alloc, table)?;
+    let actions = actions(alloc, table)?;
+    Ok(WorkLists {
         feeders,
         resources,
         actions,
