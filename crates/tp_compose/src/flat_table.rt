@@ -4,7 +4,7 @@ ghost use Rattle.std.specs.List.{flat_map};
 ghost use Rattle.toml.specs.Data.{string, array, table as table_data, as_table, get_member};
 ghost use Rattle.toml.specs.View.{table_view, view, items_of};
 ghost use Rattle.tp_machine_text.specs.Printed.{put_member, texts_data};
-ghost use Rattle.tp_machine_text.specs.Words.{text_of, keys_of, members_of};
+ghost use Rattle.tp_machine_text.specs.Words.{text_of, text_at, keys_of, members_of};
 ghost use Rattle.tp_compose.specs.Racks.{parts, entries, typed, dotted, hyphened, put_all, location_by};
 ghost use Rattle.tp_compose.specs.Flat.{put_found, locations, port_location, part_locations, end_locations, placed_feeders, feeder_table, part_resources, resource_table, flat_hold, put_holds, flat_action, part_actions, actions, flat_by};
 
@@ -399,6 +399,34 @@ fn push_part_actions(
     Ok(())
 }
 
+/// Puts what an action of a part is named, and where it leads from and to: by names after the part's.
+fn put_names(
+    alloc: Global,
+    table: &mut Table,
+    own: &Table,
+    firsts: &Table,
+    part: &str,
+    action: &Value,
+) -> Result<(), Memory>
+    ensures { OnOk result (table_view table.new ≡
+        put_member (codes "to") (string (location_by (table_view own.now) (table_view firsts.now)
+        (dotted part.now (text_at (codes "to") (view action.now)))))
+        (put_member (codes "from") (string (location_by (table_view own.now) (table_view firsts.now)
+        (dotted part.now (text_at (codes "from") (view action.now)))))
+        (put_member (codes "module") (string part.now)
+        (put_member (codes "name") (string (hyphened part.now
+        (text_at (codes "name") (view action.now)))) (table_view table.old))))) }
+{
+    let name = hyphened(alloc, part, text_at(action, "name"))?;
+    put(alloc, table, "name", Value::from(name))?;
+    let owner = Value::string(alloc, part)?;
+    put(alloc, table, "module", owner)?;
+    let from = end_value(alloc, own, firsts, part, text_at(action, "from"))?;
+    put(alloc, table, "from", from)?;
+    let to = end_value(alloc, own, firsts, part, text_at(action, "to"))?;
+    put(alloc, table, "to", to)
+}
+
 /// An action of a part: with its names after the part's, and all else as it is.
 #[tactic(auto, unfolding(crate::specs::Flat::flat_action))]
 fn flat_action(
@@ -412,13 +440,7 @@ fn flat_action(
         (table_view firsts.now) part.now (view action.now)) }
 {
     let mut table = copied(alloc, action)?;
-    let name = hyphened(alloc, part, text_at(action, "name"))?;
-    put(alloc, &mut table, "name", Value::from(name))?;
-    put(alloc, &mut table, "module", Value::string(alloc, part)?)?;
-    let from = end_value(alloc, own, firsts, part, text_at(action, "from"))?;
-    put(alloc, &mut table, "from", from)?;
-    let to = end_value(alloc, own, firsts, part, text_at(action, "to"))?;
-    put(alloc, &mut table, "to", to)?;
+    put_names(alloc, &mut table, own, firsts, part, action)?;
     put_holds(alloc, &mut table, part, field(action, "holds"))?;
     Ok(Value::from(table))
 }
