@@ -399,7 +399,7 @@ fn push_part_actions(
     Ok(())
 }
 
-/// Puts what an action of a part is named, and where it leads from and to: by names after the part's.
+/// Puts the name, the module and the two locations of a part's action.
 fn put_names(
     alloc: Global,
     table: &mut Table,
