@@ -1,4 +1,5 @@
 use Rattle.std.proofs.Common.{map, arith}
+use Rattle.std.proofs.lemmas.Grind.{common_steps}
 use Rattle.std.proofs.lemmas.List.{length-map}
 use Rattle.toml.specs.View.{view}
 use Rattle.tp_machine_text.specs.Words.{text_of}
@@ -14,3 +15,6 @@ push-requires c =
 
 pub returns-clause-rise : goal.returns-clause-rise
 returns-clause-rise c = keys_rise c.args.table.now.entries c.iter-entries.ensures.ordered
+
+pub entries-preserved : goal.entries-preserved
+entries-preserved c = record { counted = grind (arith, common_steps); named = grind (arith, common_steps); whole = grind (arith, common_steps) }

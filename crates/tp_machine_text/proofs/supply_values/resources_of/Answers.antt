@@ -10,3 +10,6 @@ entries-init c =
 
 pub returns-clause-rise : goal.returns-clause-rise
 returns-clause-rise c = keys_rise c.args.table.now.entries c.iter-entries.ensures.ordered
+
+pub entries-preserved : goal.entries-preserved
+entries-preserved c = record { counted = grind (arith, common_steps); named = grind (arith, common_steps); whole = grind (arith, common_steps) }
