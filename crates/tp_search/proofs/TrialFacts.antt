@@ -126,3 +126,7 @@ same-end machine b ask asked end other one two =
     let low = x.least y.ticks y.are_times in
     let high = y.least x.ticks x.are_times in
     omega (arith, low, high, x.there, y.there)
+
+-- a board at the end of its borrow is what was left in it
+pub as-left : {B : Type 0} (b b' : B) → b ≡ b' → b ≡ b'
+as-left b b' same = same

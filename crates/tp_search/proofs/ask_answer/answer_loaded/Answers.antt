@@ -1,9 +1,11 @@
 use Rattle.std.proofs.Common.{◌≡◌, refl, subst, ◌∙◌, IsSomeAnd, rules}
+use Rattle.tp_placing.specs.Calls.{IsSameLoad}
 use Rattle.tp_schedule.specs.Answers.{IsLeast, follows_front}
 use Rattle.tp_schedule.specs.Plans.{without}
+use Rattle.tp_search.specs.Boards.{IsAtRest}
 use Rattle.tp_search.specs.Trials.{IsEarliestTo, IsNoPlan}
 use Rattle.tp_search.specs.declared.trial.NoPlan.TheVariants.{Never}
-use Rattle.tp_search.proofs.TrialFacts.{at-rest}
+use Rattle.tp_search.proofs.TrialFacts.{as-left, at-rest}
 use Rattle.tp_search.proofs.ask_answer.answer_loaded.Goals as goal
 use Rattle.tp_search.proofs.ask_answer.answer_loaded.Goals.{In-Err-Never}
 
@@ -26,8 +28,9 @@ returns-in-Err-Never-clause-few g c = λ is. (told g (goal.at.returns-in-Err-Nev
 
 pub returns-in-Ok-clause-rests : goal.returns-in-Ok-clause-rests
 returns-in-Ok-clause-rests g c =
-    let rests = at-rest g.N.Network.reading c.args.board.now c.commit-moved.new.self.0 c.args.machine.now c.requires.rests (c.commit-moved.ensures.back c.args.board.now c.args.machine.now c.in-Ok.ensures.trial) in
-    search rules
+    let back = c.commit-moved.ensures.back c.args.board.now c.args.machine.now c.in-Ok.ensures.trial in
+    subst (λ b. IsAtRest g.N.Network.reading b c.args.machine.now) (as-left c.commit-moved.new.self.0 _ (search rules))
+    (at-rest g.N.Network.reading c.args.board.now c.commit-moved.new.self.0 c.args.machine.now c.requires.rests back)
 
 pub returns-in-Ok-clause-unmoved : goal.returns-in-Ok-clause-unmoved
 returns-in-Ok-clause-unmoved g c e =
@@ -36,5 +39,5 @@ returns-in-Ok-clause-unmoved g c e =
 
 pub returns-in-Ok-clause-loaded : goal.returns-in-Ok-clause-loaded
 returns-in-Ok-clause-loaded g c =
-    let same = (c.commit-moved.ensures.back c.args.board.now c.args.machine.now c.in-Ok.ensures.trial).loaded in
-    search rules
+    let back = c.commit-moved.ensures.back c.args.board.now c.args.machine.now c.in-Ok.ensures.trial in
+    subst (λ b. IsSameLoad c.args.board.now b) (as-left c.commit-moved.new.self.0 _ (search rules)) back.loaded

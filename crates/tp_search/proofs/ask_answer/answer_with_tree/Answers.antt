@@ -3,12 +3,14 @@ use Rattle.std.proofs.Common.{◌≡◌, ℕ, ◌+◌, ◌-◌, ◌≤◌, List,
 use Rattle.tp_schedule.specs.Answers.{IsLeast, follows_front}
 use Rattle.tp_schedule.specs.Plans.{without}
 use Rattle.tp_schedule.specs.declared.parts.Plan.{Plan}
+use Rattle.tp_placing.specs.Calls.{IsSameLoad}
 use Rattle.tp_placing.specs.Commits.{IsHeldFrom, IsLoadedFrom}
+use Rattle.tp_search.specs.Boards.{IsAtRest}
 use Rattle.tp_search.specs.Trials.{IsEarliestTo, IsNoPlan, board_in}
 use Rattle.tp_bound_laws.specs.Short.{IsShortTreeFor}
 use Rattle.tp_bound_laws.specs.declared.claim.Claim.TheVariants.{Earliest}
 use Rattle.tp_search.proofs.HeldFacts.{loaded-held}
-use Rattle.tp_search.proofs.TrialFacts.{at-rest, same-marks}
+use Rattle.tp_search.proofs.TrialFacts.{as-left, at-rest, same-marks}
 use Rattle.tp_search.specs.declared.trial.NoPlan.TheVariants.{Never}
 use Rattle.tp_search.proofs.ask_answer.answer_with_tree.Goals as goal
 use Rattle.tp_search.proofs.ask_answer.answer_with_tree.Goals.{In-Err-Never}
@@ -91,12 +93,8 @@ returns-in-Err-Spent-clause-answer g c = (
 
 pub returns-in-Ok-show-clause-loaded : goal.returns-in-Ok-show-clause-loaded
 returns-in-Ok-show-clause-loaded g c =
-    let same = (c.commit-moved.ensures.back c.args.board.now c.args.machine.now (c.show.ensures.trial c.args.board.now c.in-Ok.ensures.trial)).loaded in
-    record {
-      made_for = (let made = same.made_for in search rules);
-      plans = (let held = same.plans in search rules);
-      ask = (let asked = same.ask in search rules);
-    }
+    let back = c.commit-moved.ensures.back c.args.board.now c.args.machine.now (c.show.ensures.trial c.args.board.now c.in-Ok.ensures.trial) in
+    subst (λ b. IsSameLoad c.args.board.now b) (as-left c.commit-moved.new.self.0 _ (search rules)) back.loaded
 
 pub returns-in-Ok-show-clause-unmoved : goal.returns-in-Ok-show-clause-unmoved
 returns-in-Ok-show-clause-unmoved g c e =
@@ -110,23 +108,17 @@ returns-in-Ok-show-clause-marks g c =
 
 pub returns-in-Ok-show-clause-rests : goal.returns-in-Ok-show-clause-rests
 returns-in-Ok-show-clause-rests g c =
-    let rests = at-rest g.N.Network.reading c.args.board.now c.commit-moved.new.self.0 c.args.machine.now c.requires.rests (c.commit-moved.ensures.back c.args.board.now c.args.machine.now (c.show.ensures.trial c.args.board.now c.in-Ok.ensures.trial)) in
-    record {
-      stands = (let stands = rests.stands in search rules);
-      closed = (let closed = rests.closed in search rules);
-      unmarked = (let unmarked = rests.unmarked in search rules);
-    }
+    let back = c.commit-moved.ensures.back c.args.board.now c.args.machine.now (c.show.ensures.trial c.args.board.now c.in-Ok.ensures.trial) in
+    subst (λ b. IsAtRest g.N.Network.reading b c.args.machine.now) (as-left c.commit-moved.new.self.0 _ (search rules))
+    (at-rest g.N.Network.reading c.args.board.now c.commit-moved.new.self.0 c.args.machine.now c.requires.rests back)
 
 pub returns-in-Err-clause-rests : goal.returns-in-Err-clause-rests
 returns-in-Err-clause-rests g c =
-    let rests = at-rest g.N.Network.reading c.args.board.now c.abandon.new.self.0 c.args.machine.now c.requires.rests (c.abandon.ensures.back c.args.board.now c.args.machine.now (c.show.ensures.trial c.args.board.now c.in-Ok.ensures.trial)) in
-    search rules
+    let back = c.abandon.ensures.back c.args.board.now c.args.machine.now (c.show.ensures.trial c.args.board.now c.in-Ok.ensures.trial) in
+    subst (λ b. IsAtRest g.N.Network.reading b c.args.machine.now) (as-left c.abandon.new.self.0 _ (search rules))
+    (at-rest g.N.Network.reading c.args.board.now c.abandon.new.self.0 c.args.machine.now c.requires.rests back)
 
 pub returns-in-Err-clause-loaded : goal.returns-in-Err-clause-loaded
 returns-in-Err-clause-loaded g c =
-    let same = (c.abandon.ensures.back c.args.board.now c.args.machine.now (c.show.ensures.trial c.args.board.now c.in-Ok.ensures.trial)).loaded in
-    record {
-      made_for = (let made = same.made_for in search rules);
-      plans = (let held = same.plans in search rules);
-      ask = (let asked = same.ask in search rules);
-    }
+    let back = c.abandon.ensures.back c.args.board.now c.args.machine.now (c.show.ensures.trial c.args.board.now c.in-Ok.ensures.trial) in
+    subst (λ b. IsSameLoad c.args.board.now b) (as-left c.abandon.new.self.0 _ (search rules)) back.loaded
