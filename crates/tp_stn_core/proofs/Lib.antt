@@ -3,6 +3,7 @@ pub mod SavedFacts
 pub mod StackFacts
 pub mod LinkFacts
 pub mod KeepFacts
+pub mod LateFacts
 pub mod PastFacts
 pub mod UndoFacts
 pub mod PlainFacts

@@ -3,6 +3,9 @@ use Rattle.std.proofs.lemmas.List.{length-append, take_at}
 use Rattle.std.proofs.lemmas.List.Elements.{All-append}
 use Rattle.std.specs.List.{All}
 use Rattle.tp_base.specs.Grows.{IsKnown}
+use Rattle.tp_base.specs.Net.{Net, with_point, with_edges}
+use Rattle.tp_base.specs.Refute.{IsLateChain}
+use Rattle.tp_base.proofs.RefuteFacts.{chain_refutes}
 use Rattle.tp_base.proofs.LeastFacts.{point_within, point_known}
 use Rattle.tp_stn_core.specs.Marks.{past_of}
 use Rattle.tp_stn_core.specs.Sound.{IsSound}
@@ -10,9 +13,10 @@ use Rattle.tp_stn_core.specs.Plain.{past_in}
 use Rattle.tp_stn_core.specs.PlainState.{PlainState}
 use Rattle.tp_stn_core.proofs.StackFacts.{stacked_grown}
 use Rattle.tp_stn_core.proofs.KeepFacts.{saved_pointed}
-use Rattle.tp_stn_core.proofs.PastFacts.{past_edge, past_point}
+use Rattle.tp_stn_core.proofs.PastFacts.{past_edge, past_point, same_net}
+use Rattle.tp_stn_core.proofs.LateFacts.{late_point}
 use Rattle.tp_stn_core.proofs.network.PlainNetNetwork.extend.Goals as goal
-use Rattle.tp_stn_core.proofs.network.PlainNetNetwork.extend.Goals.{In-Ok}
+use Rattle.tp_stn_core.proofs.network.PlainNetNetwork.extend.Goals.{After-self-1, In-Ok, After-kept-in-Err-1}
 
 known : (c : In-Ok) → All (IsKnown (length c.push_reserved.new.self.items)) c.extend_from_slice.new.self.items
 known c =
@@ -104,18 +108,37 @@ invariant_of-self-in-Ok-solve c =
 pub returns-in-Ok-solve-clause-past : goal.returns-in-Ok-solve-clause-past
 returns-in-Ok-solve-clause-past c = past_is (goal.at.returns-in-Ok-solve-clause-past c).In-Ok ∙ ap (λ (s : PlainState). s.past) c.self.view_is
 
-pub invariant_of-self-in-Err : goal.invariant_of-self-in-Err
-invariant_of-self-in-Err c =
+-- the lists are as they were once the change is taken back
+record IsUndone (c : After-kept-in-Err-1) : Type 0 where
+  lows : c.truncate.new.self.items ≡ c.self.inside.lows.items
+  caps : c.truncate-in-Err.new.self.items ≡ c.self.inside.caps.items
+  newest : c.truncate-in-Err-2.new.self.items ≡ c.self.inside.newest.items
+  edges : c.truncate-in-Err-3.new.self.items ≡ c.self.inside.edges.items
+
+undone : (c : After-kept-in-Err-1) → IsUndone c
+undone c =
     let inv = c.self.invariant in
     let a = c.self.inside in
     let points : length a.lows.items ≡ c.len-points.result = omega (arith, c.len-points.ensures, a.lows.ok.0) in
     let count : length a.edges.items ≡ c.len-count.result = omega (arith, c.len-count.ensures, a.edges.ok.0) in
     let m = inv.sound.caps in
     let o = inv.links.len in
-    let el : c.truncate.new.self.items ≡ a.lows.items = c.truncate.ensures.items ∙ ap (take c.len-points.result) c.push_reserved.ensures.items ∙ take_at a.lows.items (c.args.low ∷ []) c.len-points.result points in
-    let ec : c.truncate-in-Err.new.self.items ≡ a.caps.items = c.truncate-in-Err.ensures.items ∙ ap (take c.len-points.result) c.push_reserved-2.ensures.items ∙ take_at a.caps.items (c.args.cap ∷ []) c.len-points.result (omega arith) in
-    let en : c.truncate-in-Err-2.new.self.items ≡ a.newest.items = c.truncate-in-Err-2.ensures.items ∙ ap (take c.len-points.result) c.push_reserved-3.ensures.items ∙ take_at a.newest.items (0 ∷ []) c.len-points.result (omega arith) in
-    let ee : c.truncate-in-Err-3.new.self.items ≡ a.edges.items = c.truncate-in-Err-3.ensures.items ∙ ap (take c.len-count.result) c.in-Ok.ensures.items ∙ take_at a.edges.items c.args.edges.now c.len-count.result count in
+    record {
+      lows = c.truncate.ensures.items ∙ ap (take c.len-points.result) c.push_reserved.ensures.items ∙ take_at a.lows.items (c.args.low ∷ []) c.len-points.result points;
+      caps = c.truncate-in-Err.ensures.items ∙ ap (take c.len-points.result) c.push_reserved-2.ensures.items ∙ take_at a.caps.items (c.args.cap ∷ []) c.len-points.result (omega arith);
+      newest = c.truncate-in-Err-2.ensures.items ∙ ap (take c.len-points.result) c.push_reserved-3.ensures.items ∙ take_at a.newest.items (0 ∷ []) c.len-points.result (omega arith);
+      edges = c.truncate-in-Err-3.ensures.items ∙ ap (take c.len-count.result) c.in-Ok.ensures.items ∙ take_at a.edges.items c.args.edges.now c.len-count.result count;
+    }
+
+pub invariant_of-self-in-Err : goal.invariant_of-self-in-Err
+invariant_of-self-in-Err c =
+    let inv = c.self.invariant in
+    let a = c.self.inside in
+    let u = undone c in
+    let el = u.lows in
+    let ec = u.caps in
+    let en = u.newest in
+    let ee = u.edges in
     let r = inv.capacity in
     let r1 = r.lows in
     let r2 = r.caps in
@@ -158,7 +181,39 @@ invariant_of-self-in-Err c =
       past = rw (el, ec, ee) inv.past;
     }
 
+pub returns-in-Err-clause-kept : goal.returns-in-Err-clause-kept
+returns-in-Err-clause-kept c = let u = undone c in same_net _ _ _ _ _ _ u.lows u.caps u.edges ∙ ap (λ (s : PlainState). s.net) c.self.view_is
+
+pub returns-in-Err-clause-past : goal.returns-in-Err-clause-past
+returns-in-Err-clause-past c =
+    let u = undone c in
+    let a = c.self.inside in
+    ap (λ (n : Net). past_of a.marks.items a.saved.items n.lows n.caps n.edges) (same_net _ _ _ _ _ _ u.lows u.caps u.edges) ∙ ap (λ (s : PlainState). s.past) c.self.view_is
+
 pub returns-in-Err-clause-late : goal.returns-in-Err-clause-late
 returns-in-Err-clause-late c =
     let none = rw (c.deref.ensures.value ∙ c.push_reserved.ensures.items, c.deref-2.ensures.value ∙ c.push_reserved-2.ensures.items, c.deref-3.ensures.value ∙ c.in-Ok.ensures.items) at c.in-Err.ensures.none in
     rw (sym c.self.view_is) none
+
+-- the new point shows that there is no solution
+late : (c : After-self-1) → IsLateChain (with_edges (with_point c.args.self.now.net c.args.low c.args.cap) c.args.edges.now) c.len-points.result []
+late c =
+    let a = c.self.inside in
+    let caps = ap (λ (s : PlainState). length s.net.caps) c.self.view_is in
+    let lows = ap (λ (s : PlainState). length s.net.lows) c.self.view_is in
+    let same = c.self.invariant.sound.caps in
+    late_point c.args.self.now.net c.args.low c.args.cap c.args.edges.now c.len-points.result (omega arith) (omega (arith, c.len-points.ensures, a.lows.ok.0)) c.if-low-cap.true
+
+pub returns-then-low-cap-clause-refused : goal.returns-then-low-cap-clause-refused
+returns-then-low-cap-clause-refused c = rw c.clear.ensures.items (late c)
+
+pub returns-then-low-cap-clause-late : goal.returns-then-low-cap-clause-late
+returns-then-low-cap-clause-late c = chain_refutes (with_edges (with_point c.args.self.now.net c.args.low c.args.cap) c.args.edges.now) c.len-points.result [] (late c)
+
+pub solve-requires-clause-within : goal.solve-requires-clause-within
+solve-requires-clause-within c =
+    let a = c.self.inside in
+    let inv = c.self.invariant in
+    let f = c.if-low-cap.false in
+    rw (c.deref-2.ensures.value ∙ c.push_reserved-2.ensures.items, c.deref.ensures.value ∙ c.push_reserved.ensures.items)
+    (point_within a.lows.items a.caps.items a.times.items a.edges.items c.args.low c.args.cap inv.sound.caps inv.times (omega arith) inv.sound.known inv.sound.within)

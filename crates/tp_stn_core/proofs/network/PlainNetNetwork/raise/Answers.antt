@@ -5,6 +5,7 @@ use Rattle.std.specs.List.{All}
 use Rattle.tp_base.specs.Net.{with_low}
 use Rattle.tp_base.specs.Refute.{IsLateChain}
 use Rattle.tp_base.proofs.LeastFacts.{raised_chain, raised_within}
+use Rattle.tp_base.proofs.RefuteFacts.{chain_refutes}
 use Rattle.tp_stn_core.specs.Marks.{past_of}
 use Rattle.tp_stn_core.specs.Sound.{IsSound}
 use Rattle.tp_stn_core.specs.Plain.{net_in, past_in}
@@ -15,7 +16,7 @@ use Rattle.tp_stn_core.proofs.PastFacts.{same_net, past_raised}
 use Rattle.tp_base.proofs.LeastFacts.{mut_items}
 use Rattle.tp_stn_core.specs.Saved.{saved_after, newest_after}
 use Rattle.tp_stn_core.proofs.network.PlainNetNetwork.raise.Goals as goal
-use Rattle.tp_stn_core.proofs.network.PlainNetNetwork.raise.Goals.{After-swap}
+use Rattle.tp_stn_core.proofs.network.PlainNetNetwork.raise.Goals.{After-self-1, After-swap}
 
 saved_is : (c : After-swap) → c.save.new.saved.items ≡ saved_after c.self.inside.marks.items c.self.inside.saved.items c.self.inside.newest.items c.args.point c.index-old.result.now
 saved_is c = rw (c.deref-in-Ok.ensures.value, c.deref_mut.ensures.value) at c.save.ensures.saved
@@ -33,8 +34,9 @@ past_is c =
     ap (λ ss. past_of a.marks.items ss (set a.lows.items c.args.point.0 c.args.low) a.caps.items a.edges.items) (saved_is c)
     ∙ past_raised a.marks.items a.saved.items a.lows.items a.caps.items a.edges.items a.max_points inv.stacked a.newest.items c.args.point c.args.low c.index-old.result.now c.index-old.result.now inv.links (in_lows c) c.index-old.ensures
 
-pub returns-then-low-index-clause-refused : goal.returns-then-low-index-clause-refused
-returns-then-low-index-clause-refused c =
+-- the point shows that there is no solution
+late : (c : After-self-1) → IsLateChain (with_low c.args.self.now.net c.args.point.0 c.args.low) c.args.point.0 []
+late c =
     let a = c.self.inside in
     let p = c.args.point.0 in
     let n = c.self.invariant.sound.caps in
@@ -43,7 +45,23 @@ returns-then-low-index-clause-refused c =
     let i = get_or_read a.caps.items p c.index.result.now (omega arith) c.index.ensures 0 in
     let h : slice_index a.caps.items p < c.args.low = omega arith in
     let chain = raised_chain (net_in a) p c.args.low (omega arith) h in
-    rw c.clear.ensures.items (subst (λ (s : PlainState). IsLateChain (with_low s.net p c.args.low) p []) c.self.view_is chain)
+    subst (λ (s : PlainState). IsLateChain (with_low s.net p c.args.low) p []) c.self.view_is chain
+
+pub returns-then-low-index-clause-refused : goal.returns-then-low-index-clause-refused
+returns-then-low-index-clause-refused c = rw c.clear.ensures.items (late c)
+
+pub returns-then-low-index-clause-late : goal.returns-then-low-index-clause-late
+returns-then-low-index-clause-late c = chain_refutes (with_low c.args.self.now.net c.args.point.0 c.args.low) c.args.point.0 [] (late c)
+
+pub solve-requires-clause-within : goal.solve-requires-clause-within
+solve-requires-clause-within c =
+    let a = c.self.inside in
+    let m = c.self.invariant.sound.caps in
+    let v = ap (λ (s : PlainState). length s.net.lows) c.self.view_is in
+    let k = c.requires.known in
+    let i = get_or_read a.caps.items c.args.point.0 c.index.result.now (omega arith) c.index.ensures 0 in
+    let at_most : c.args.low ≤ slice_index a.caps.items c.args.point.0 = omega arith in
+    rw (c.deref-2.ensures.value, c.deref.ensures.value) (raised_within a.lows.items a.caps.items c.args.point.0 c.args.low (omega arith) at_most c.self.invariant.sound.within)
 
 pub save-requires-clause-capacity : goal.save-requires-clause-capacity
 save-requires-clause-capacity c h =
