@@ -80,6 +80,17 @@ side-more held more_held steps more_steps (c ∷ cs) (o ∷ os) (m ∷ ms) f =
     let rest = side-more held more_held steps more_steps cs os ms (λ k n z. f (suc k) n z) in
     λ i. same i ∷ rest i
 
+-- no mark stands
+pub marks-none : (marks : List BoardMark) (steps held : ℕ) → length marks ≡ 0 → AreMarks marks steps held
+marks-none marks steps held none =
+    let no : (k : ℕ) (m : BoardMark) → slice_get marks k ≡ Some m → ⊥ = λ k m h. (let w = slice_get_within marks k m h in omega arith) in
+    record {
+      steps_below = λ k m h. absurd (no k m h);
+      held_below = λ k m h. absurd (no k m h);
+      steps_rise = λ j k m n b g h. absurd (no j m g);
+      held_rise = λ j k m n b g h. absurd (no j m g);
+    }
+
 pub marks-push : (marks : List BoardMark) (steps held : ℕ) (m : BoardMark) → m.steps ≡ steps → m.held ≡ held → AreMarks marks steps held → AreMarks (marks ++ m ∷ []) steps held
 marks-push marks steps held m s h a = record {
   steps_below = λ k n z. elim (slice_get_end marks m k n z) [ inl q ↦ a.steps_below k n q | inr q ↦ (let e = ap (λ (x : BoardMark). x.steps) q.1 in omega arith) ];

@@ -17,4 +17,5 @@ pub mod AddedEdges
 pub mod Candidates
 pub mod PushedHolds
 pub mod KeptBoard
+pub mod NewBoard
 pub mod ClockMove
