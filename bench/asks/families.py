@@ -245,11 +245,11 @@ FAMILIES = {"rack": rack, "loop": loop, "buffer": buffer, "slack": slack, "grid"
 # The sizes of the asks of the set, smallest first.
 SIZES = {
     "rack": (0, 8, 32, 64, 128, 255),
-    "loop": (0, 16, 24, 32, 40, 48),
-    "buffer": (4, 8, 10, 12, 14, 16),
-    "slack": (4, 8, 16, 24, 32, 40),
-    "grid": (0, 6, 8, 10, 12, 14),
-    "tint": (0, 16, 24, 32, 48, 56),
+    "loop": (0, 24, 48, 56, 64, 96),
+    "buffer": (4, 10, 18, 20, 24, 28),
+    "slack": (4, 40, 48, 56, 64, 80),
+    "grid": (0, 12, 13, 14, 16, 20),
+    "tint": (0, 24, 40, 48, 56, 96),
     "stock": (4, 8, 16, 32, 64, 128),
     "flight": (8, 16, 24, 32, 40, 48),
 }
