@@ -4,4 +4,3 @@ pub mod LaidWays
 pub mod SearchFacts
 pub mod ReasonFacts
 pub mod TrialFacts
-pub mod ChainFacts
