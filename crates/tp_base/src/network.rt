@@ -135,6 +135,21 @@ pub trait Network: Undo {
         requires { point.0 < length (reading.net self.now).lows }
         ensures { IsEarliest (reading.net self.now) point.0 result };
 
+    /// The greatest time that the point may have.
+    fn cap(&self, point: PointId) -> u32
+        requires { point.0 < length (reading.net self.now).lows }
+        ensures { result ≡ slice_index (reading.net self.now).caps point.0 };
+
+    /// How many edges there are.
+    fn edge_count(&self) -> u32
+        ensures { result ≡ length (reading.net self.now).edges };
+
+    /// The edge of this number, in the order in which edges were added.
+    fn edge(&self, number: u32) -> Edge
+        requires { number < length (reading.net self.now).edges }
+        ensures found { slice_get (reading.net self.now).edges number ≡ Some result }
+        ensures known { IsKnown (length (reading.net self.now).lows) result };
+
     /// Whether a point before this one may be later than it was at the oldest mark in force. A network that does not keep
     /// what it was says yes.
     fn may_have_risen(&self, end: PointId) -> bool

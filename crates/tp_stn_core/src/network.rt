@@ -144,6 +144,18 @@ impl Network for PlainNet {
         self.times[point.0 as usize]
     }
 
+    fn cap(&self, point: PointId) -> Tick {
+        self.caps[point.0 as usize]
+    }
+
+    fn edge_count(&self) -> u32 {
+        self.edges.len() as u32
+    }
+
+    fn edge(&self, number: u32) -> Edge {
+        self.edges[number as usize]
+    }
+
     fn may_have_risen(&self, _end: PointId) -> bool {
         true
     }

@@ -167,6 +167,18 @@ impl Network for LiveNet {
         self.states[point.0 as usize].time
     }
 
+    fn cap(&self, point: PointId) -> Tick {
+        self.caps[point.0 as usize]
+    }
+
+    fn edge_count(&self) -> u32 {
+        self.links.len() as u32
+    }
+
+    fn edge(&self, number: u32) -> Edge {
+        self.links[number as usize].edge
+    }
+
     fn may_have_risen(&self, end: PointId) -> bool {
         match self.marks.first() {
             Some(mark) => self
