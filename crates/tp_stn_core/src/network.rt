@@ -149,7 +149,7 @@ impl Network for PlainNet {
     }
 
     fn edge_count(&self) -> u32 {
-        self.edges.len() as u32
+        self.max_edges - self.spare_edges()
     }
 
     fn edge(&self, number: u32) -> Edge {

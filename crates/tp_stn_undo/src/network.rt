@@ -172,7 +172,7 @@ impl Network for LiveNet {
     }
 
     fn edge_count(&self) -> u32 {
-        self.links.len() as u32
+        self.max_edges - self.spare_edges()
     }
 
     fn edge(&self, number: u32) -> Edge {
