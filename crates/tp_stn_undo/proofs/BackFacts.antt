@@ -115,7 +115,6 @@ module _ (a b : Inside) (k : ℕ) (inv : IsLive a) (w : WentBack a b k) where
       let s4 = r.saved in
       let s5 = r.marks in
       let s7 = r.heads in
-      let s8 = r.small in
       let s9 = r.narrow in
       record {
         points = omega arith;
@@ -130,7 +129,6 @@ module _ (a b : Inside) (k : ℕ) (inv : IsLive a) (w : WentBack a b k) where
           working = record { waits = omega arith; noted = omega arith; path = omega arith; places = omega arith };
           saved = omega arith;
           marks = omega arith;
-          small = omega arith;
           narrow = omega arith;
         };
         rest = record { idle = subst (λ (x : Waiting). AreIdle x.flags) (sym w.waiting_same) inv.rest.idle; none = ap (λ (x : Waiting). x.points) w.waiting_same ∙ inv.rest.none; unchanged = w.unchanged; zeros = subst (λ (x : Vec ℕ Global). AreZeros x.items) (sym w.places_same) inv.rest.zeros };

@@ -95,7 +95,6 @@ module _ (a : Inside) (inv : IsLive a) where
         let filled = s.filled in
         let w2 = c.noted in
         let products : length b.marks.items * b.working.changes.capacity ≡ length a.marks.items * a.working.changes.capacity = ap (λ i. i * b.working.changes.capacity) nm ∙ ap (λ i. length a.marks.items * i) w2 in
-        let all : b.max_marks * b.working.changes.capacity ≡ a.max_marks * a.working.changes.capacity = ap (λ i. i * b.working.changes.capacity) mp ∙ ap (λ i. a.max_marks * i) w2 in
         let more : (b.max_marks + 1) * b.working.changes.capacity ≡ (a.max_marks + 1) * a.working.changes.capacity = ap (λ i. (i + 1) * b.working.changes.capacity) mp ∙ ap (λ i. (a.max_marks + 1) * i) w2 in
         let h1 = h.points in
         let h2 = h.edges in
@@ -113,7 +112,6 @@ module _ (a : Inside) (inv : IsLive a) where
         let s4 = r.saved in
         let s5 = r.marks in
         let s7 = r.heads in
-        let s8 = r.small in
         let s9 = r.narrow in
         let w1 = c.waits in
         let w3 = c.path in
@@ -135,7 +133,6 @@ module _ (a : Inside) (inv : IsLive a) where
             working = record { waits = omega arith; noted = omega arith; path = omega arith; places = omega arith };
             saved = omega arith;
             marks = omega arith;
-            small = omega arith;
             narrow = omega arith;
           };
           rest = c.rest;

@@ -34,7 +34,6 @@ pub record HasCapacity (a : Inside) : Type 0 where
   pub working : HasWorkingCapacity a.max_points a.working
   pub saved : (a.max_marks + 1) * a.working.changes.capacity ≤ a.working.changes.most
   pub marks : a.max_marks ≤ vec_capacity a.marks
-  pub small : a.max_marks * a.working.changes.capacity < 2 ^ 32
   pub narrow : a.max_points < 2 ^ 32
 
 pub record IsLive (a : Inside) : Type 0 where

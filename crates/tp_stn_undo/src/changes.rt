@@ -1,5 +1,5 @@
 //! What points were before they changed: for the marks in force, and before the change that is being made.
-ghost use Rattle.std.specs.Prelude.{◌≡◌, ℕ, ◌+◌, ◌*◌, ◌<◌, ◌≤◌, ◌^◌, false, true, List, [], length, take, drop, slice_get, slice_set, Some, IfOk, vec_capacity};
+ghost use Rattle.std.specs.Prelude.{◌≡◌, ℕ, ◌+◌, ◌*◌, ◌<◌, ◌≤◌, false, true, List, [], length, take, drop, slice_get, slice_set, Some, IfOk, vec_capacity};
 ghost use Rattle.tp_stn_undo.specs.declared.point_state.PointState.{PointState};
 ghost use Rattle.tp_stn_undo.specs.Saved.{restored};
 ghost use Rattle.tp_stn_undo.specs.Times.{IsOneMoved, KeepTimes};
@@ -171,11 +171,10 @@ impl Changes {
     }
 
     /// How many were saved before the change.
-    pub(crate) fn saved(&self) -> u32
-        requires { length self.now.older < 2 ^ 32 }
+    pub(crate) fn saved(&self) -> usize
         ensures { result ≡ length self.now.older }
     {
-        self.before as u32
+        self.before
     }
 
     /// Whether a point before this one has another time than it had when so many were saved, or since.

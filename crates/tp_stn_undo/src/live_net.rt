@@ -73,9 +73,6 @@ impl LiveNet {
         ensures marks { IfOk result (λ n. n.max_marks ≡ marks) }
     {
         let capacity = points as usize;
-        if capacity * marks as usize > u32::MAX as usize {
-            return Err(Memory);
-        }
         Ok(LiveNet {
             max_points: points,
             max_edges: edges,

@@ -5,5 +5,5 @@
 pub(crate) struct LiveMark {
     pub(crate) points: u32,
     pub(crate) edges: u32,
-    pub(crate) saved: u32,
+    pub(crate) saved: usize,
 }

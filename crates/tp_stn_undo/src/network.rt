@@ -181,10 +181,7 @@ impl Network for LiveNet {
 
     fn may_have_risen(&self, end: PointId) -> bool {
         match self.marks.first() {
-            Some(mark) => self
-                .working
-                .changes
-                .is_late(mark.saved as usize, end, &self.states),
+            Some(mark) => self.working.changes.is_late(mark.saved, end, &self.states),
             None => true,
         }
     }

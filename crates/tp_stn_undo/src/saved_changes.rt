@@ -25,7 +25,7 @@ pub(crate) fn save_changes(marks: &[LiveMark], changes: &mut Changes)
     ensures most { changes.new.most ≡ changes.old.most }
 {
     match marks.last() {
-        Some(mark) => changes.keep(mark.saved as usize),
+        Some(mark) => changes.keep(mark.saved),
         None => changes.clear(),
     }
 }

@@ -50,7 +50,7 @@ pub(crate) fn restore(
 {
     let place = marks.len() - 1;
     let at = marks[place];
-    changes.back_to(at.saved as usize, states);
+    changes.back_to(at.saved, states);
     states.truncate(at.points as usize);
     heads.truncate(at.points as usize);
     caps.truncate(at.points as usize);

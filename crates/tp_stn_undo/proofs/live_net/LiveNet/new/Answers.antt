@@ -5,17 +5,14 @@ use Rattle.tp_stn_undo.proofs.live_net.LiveNet.new.Goals as goal
 
 pub invariant_of-result : goal.invariant_of-result
 invariant_of-result c =
-    let fit = c.if-capacity-marks.false in
     let fits = c.ranges.points in
     let n = c.in_ok-new.ensures.noted in
     let m = c.in_ok-new.ensures.most in
-    let all : c.args.marks * c.in_ok-new.field-0.changes.capacity ≡ c.args.marks * c.args.points = ap (λ i. c.args.marks * i) n in
     let more : (c.args.marks + 1) * c.in_ok-new.field-0.changes.capacity ≡ (c.args.marks + 1) * c.args.points = ap (λ i. (c.args.marks + 1) * i) n in
     let k1 = c.in_ok-with_capacity.ensures.capacity in
     let k2 = c.in_ok-with_capacity-2.ensures.capacity in
     let k4 = c.in_ok-with_capacity-4.ensures.capacity in
     let k5 = c.in_ok-with_capacity-5.ensures.capacity in
-    let t1 = mul_comm c.args.marks c.args.points in
     let t2 = mul_comm (c.args.marks + 1) c.args.points in
     live_empty _ c.in_ok-with_capacity.ensures.items c.in_ok-with_capacity-2.ensures.items c.in_ok-with_capacity-3.ensures.items c.in_ok-with_capacity-4.ensures.items c.in_ok-new.ensures.older c.in_ok-with_capacity-5.ensures.items
     (record {
@@ -26,7 +23,6 @@ invariant_of-result c =
       working = c.in_ok-new.ensures.capacity;
       saved = omega arith;
       marks = k5;
-      small = omega arith;
       narrow = omega arith;
     })
     c.in_ok-new.ensures.rest

@@ -30,9 +30,7 @@ invariant_of-self c =
     let k5 = c.clear-5.ensures.capacity in
     let k6 = c.clear-5.ensures.most in
     let m1 : (a.max_marks + 1) * c.clear-5.new.self.capacity ≡ (a.max_marks + 1) * a.working.changes.capacity = ap (λ i. (a.max_marks + 1) * i) k5 in
-    let m2 : a.max_marks * c.clear-5.new.self.capacity ≡ a.max_marks * a.working.changes.capacity = ap (λ i. a.max_marks * i) k5 in
     let v2 = r.working.noted in
-    let s6 = r.small in
     let s1 = r.states in
     let s2 = r.caps in
     let s3 = r.links in
@@ -47,7 +45,6 @@ invariant_of-self c =
       working = record { waits = r.working.waits; noted = omega arith; path = r.working.path; places = r.working.places };
       saved = omega arith;
       marks = r.marks;
-      small = omega arith;
       narrow = r.narrow;
     })
     (record { idle = inv.rest.idle; none = inv.rest.none; unchanged = c.clear-5.ensures.entries; zeros = inv.rest.zeros })

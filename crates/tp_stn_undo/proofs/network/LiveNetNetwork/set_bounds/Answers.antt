@@ -95,7 +95,6 @@ invariant_of-self c =
         working = inv.capacity.working;
         saved = inv.capacity.saved;
         marks = inv.capacity.marks;
-        small = inv.capacity.small;
         narrow = inv.capacity.narrow;
       };
       rest = inv.rest;

@@ -44,7 +44,6 @@ invariant_of-self c =
         working = inv.capacity.working;
         saved = inv.capacity.saved;
         marks = omega arith;
-        small = inv.capacity.small;
         narrow = inv.capacity.narrow;
       };
       rest = inv.rest;
