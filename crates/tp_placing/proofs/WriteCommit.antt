@@ -20,16 +20,13 @@ use Rattle.tp_constraints.specs.Nets.{IsBoardNet}
 use Rattle.tp_constraints.specs.Numbers.{number, ticks_by}
 use Rattle.tp_constraints.specs.Suffixes.{Suffix}
 use Rattle.tp_constraints.proofs.LeastSolutions.{commit_law}
-use Rattle.tp_placing.specs.Commits.{CanCommit, IsHeldFrom, retimed_in}
+use Rattle.tp_constraints.proofs.Solutions.{board_least, board_solutions}
+use Rattle.tp_placing.specs.Commits.{AreLeastTimes, CanCommit, IsHeldFrom, IsWrittenFor, retimed_in, written_for}
 use Rattle.tp_placing.proofs.WriteHeld.{IsAnswered, answered-on_live, asked_plan-alive}
 use Rattle.tp_placing.proofs.WriteJoined.{joined}
 use Rattle.tp_placing.proofs.WriteLive.{gone, may-ask, may-forget, put-of}
 use Rattle.tp_placing.proofs.WritePlans.{in_order-retimed}
 use Rattle.tp_placing.proofs.WriteWhole.{forget-new, less-live}
-
--- the schedule that is written for its live plans, at these ticks
-abbrev pub written_for : List Plan → List Plan → Ask → List Choice → Ticks → List Plan
-written_for plans live ask choices t = put_plan (timed_by (settled_ticks ask (total_of ask choices) t) (asked_plan live ask choices)) (without ask.sheet (map (retimed_in live t) plans))
 
 -- it is an answer, and ends so
 pub record IsWritten (machine : Machine) (plans : List Plan) (ask : Ask) (end : ℕ) (new : List Plan) : Type 0 where
@@ -63,16 +60,32 @@ answers machine plans held ask x table net sol from load asked is complete l =
     subst (λ ps. IsAnswered machine ps ask x.choices (ticks_by table sol) (sol (number table (own 0)))) from.live_part
     (answered-on_live machine held ask from.can_put x.choices (ticks_by table sol) (sol (number table (own 0))) (record { answer = law.0.0; ends = law.0.1; least = law.1 }))
 
--- the same of a schedule that was made so, step by step
+-- a schedule that was made step by step is the one that is written
+pub made-so : (machine : Machine) (plans held : List Plan) (ask : Ask) (choices : List Choice) (t : Ticks) → IsHeldFrom machine plans ask held
+    → (mid new : List Plan) (p : Plan) → mid ≡ map (retimed_in (filter (is_live machine ask.now) held) t) plans → p ≡ timed_by (settled_ticks ask (total_of ask choices) t) (asked_plan held ask choices)
+    → p.sheet ≡ ask.sheet → new ≡ put_plan p (without p.sheet mid) → new ≡ written_for plans (filter (is_live machine ask.now) plans) ask choices t
+made-so machine plans held ask choices t from mid new p times plan sheet made =
+    let times' : mid ≡ map (retimed_in (filter (is_live machine ask.now) plans) t) plans = times ∙ ap (λ ps. map (retimed_in ps t) plans) from.live_part in
+    let same : asked_plan held ask choices ≡ asked_plan (filter (is_live machine ask.now) plans) ask choices = asked_plan-alive machine held ask from.can_put choices ∙ ap (λ ps. asked_plan ps ask choices) from.live_part in
+    let plan' : p ≡ timed_by (settled_ticks ask (total_of ask choices) t) (asked_plan (filter (is_live machine ask.now) plans) ask choices) = plan ∙ ap (timed_by (settled_ticks ask (total_of ask choices) t)) same in
+    made ∙ (λ i. put_plan (plan' i) (without (sheet i) (times' i)))
+
+-- the least solution gives the least times
+least-times : (machine : Machine) (held : List Plan) (ask : Ask) (x : Suffix) (table : List Spot) (net : Net) (sol : ℕ → ℕ) → IsBoardNet machine held ask x table net → IsLeastSolution net sol
+    → AreLeastTimes machine held ask x (ticks_by table sol)
+least-times machine held ask x table net sol is l = record {
+  times = (board_solutions machine held ask x table net is sol).0 l.solution;
+  least = λ others h s known. (board_least machine held ask x table net is sol l s known).0 others h;
+}
+
+-- what is written is an answer, and made for the suffix
 pub written-is : (machine : Machine) (plans held : List Plan) (ask : Ask) (x : Suffix) (table : List Spot) (net : Net) (sol : ℕ → ℕ) → IsHeldFrom machine plans ask held
     → IsLoadable machine ask.now (λ _. false) held → IsAsked machine held ask → IsBoardNet machine held ask x table net → CanCommit machine held ask x → IsLeastSolution net sol
-    → (mid new : List Plan) (p : Plan) → mid ≡ map (retimed_in (filter (is_live machine ask.now) held) (ticks_by table sol)) plans → p ≡ timed_by (settled_ticks ask (total_of ask x.choices) (ticks_by table sol)) (asked_plan held ask x.choices)
-    → p.sheet ≡ ask.sheet → new ≡ put_plan p (without p.sheet mid) → AllPairs IsEarlier new → IsWritten machine plans ask (sol (number table (own 0))) new
-written-is machine plans held ask x table net sol from load asked is complete l mid new p times plan sheet made in_order =
-    let times' : mid ≡ map (retimed_in (filter (is_live machine ask.now) plans) (ticks_by table sol)) plans = times ∙ ap (λ ps. map (retimed_in ps (ticks_by table sol)) plans) from.live_part in
-    let same : asked_plan held ask x.choices ≡ asked_plan (filter (is_live machine ask.now) plans) ask x.choices = asked_plan-alive machine held ask from.can_put x.choices ∙ ap (λ ps. asked_plan ps ask x.choices) from.live_part in
-    let plan' : p ≡ timed_by (settled_ticks ask (total_of ask x.choices) (ticks_by table sol)) (asked_plan (filter (is_live machine ask.now) plans) ask x.choices) = plan ∙ ap (timed_by (settled_ticks ask (total_of ask x.choices) (ticks_by table sol))) same in
-    let e : new ≡ written_for plans (filter (is_live machine ask.now) plans) ask x.choices (ticks_by table sol) = made ∙ (λ i. put_plan (plan' i) (without (sheet i) (times' i))) in
-    subst (IsWritten machine plans ask (sol (number table (own 0)))) (sym e)
-    (commits machine plans ask x.choices (ticks_by table sol) (sol (number table (own 0))) from.can_ask (answers machine plans held ask x table net sol from load asked is complete l)
-    (in_order-retimed (filter (is_live machine ask.now) plans) (ticks_by table sol) plans from.can_ask.plan_on.legal.in_order) (subst (AllPairs IsEarlier) e in_order))
+    → (new : List Plan) → new ≡ written_for plans (filter (is_live machine ask.now) plans) ask x.choices (ticks_by table sol) → AllPairs IsEarlier new
+    → IsWritten machine plans ask (sol (number table (own 0))) new × IsWrittenFor machine plans held ask new x
+written-is machine plans held ask x table net sol from load asked is complete l new e in_order = (
+  subst (IsWritten machine plans ask (sol (number table (own 0)))) (sym e)
+  (commits machine plans ask x.choices (ticks_by table sol) (sol (number table (own 0))) from.can_ask (answers machine plans held ask x table net sol from load asked is complete l)
+  (in_order-retimed (filter (is_live machine ask.now) plans) (ticks_by table sol) plans from.can_ask.plan_on.legal.in_order) (subst (AllPairs IsEarlier) e in_order)),
+  record { ticks = ticks_by table sol; least = least-times machine held ask x table net sol is l; made = e },
+)

@@ -8,7 +8,7 @@ ghost use Rattle.tp_placing.specs.Boards.{suffix_of};
 ghost use Rattle.tp_placing.specs.Settled.{HasLeastPoints};
 ghost use Rattle.tp_placing.specs.LoadedBoard.{Stands};
 ghost use Rattle.tp_placing.specs.Ticks.{HasLeastTick};
-ghost use Rattle.tp_placing.specs.Commits.{CanCommit, IsHeldFrom};
+ghost use Rattle.tp_placing.specs.Commits.{CanCommit, IsHeldFrom, IsWrittenFor};
 
 use crate::asked::{OwnActs, plan_by_steps};
 use crate::board::Board;
@@ -31,8 +31,9 @@ impl<N: Network> Board<N> {
     }
 
     /// Writes the asked copy's plan and the times of the loaded plans into the schedule whose live plans the board holds. Plans
-    /// that are over by now stay as they are there. Takes one spare plan for a new copy, and no memory. Answers whether another
-    /// plan moved.
+    /// that are over by now stay as they are there. The plan has the actions of the choices on the board, and all loaded plans
+    /// that are live have the least ticks that keep the holds in their places there. Takes one spare plan for a new copy, and no
+    /// memory. Answers whether another plan moved.
     pub fn commit(&self, machine: &Machine, schedule: &mut Schedule) -> bool
         requires stands { Stands N.reading self.now machine.now }
         requires loaded { IsSomeAnd self.now.ask
@@ -44,6 +45,10 @@ impl<N: Network> Board<N> {
         ensures alternative { IsSomeAnd self.now.ask
             (λ ask. (a : IsAlternative machine.now schedule.old.plans ask schedule.new.plans)
             × HasLeastTick machine.now self.now (own 0) (end_of_plan a.plan)) }
+        ensures written { IsSomeAnd self.now.ask
+            (λ ask. IsSomeAnd (suffix_of self.now)
+            (IsWrittenFor machine.now schedule.old.plans self.now.plans ask
+            schedule.new.plans)) }
         ensures least { IsSomeAnd self.now.ask
             (λ ask. IsLeast machine.now ask.now (follows_front ask) schedule.new.plans) }
         ensures unmoved { result ≡ false → IsSomeAnd self.now.ask

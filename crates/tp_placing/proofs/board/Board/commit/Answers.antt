@@ -19,12 +19,12 @@ use Rattle.tp_placing.specs.Inside.{board_of}
 use Rattle.tp_placing.specs.Settled.{AreOfSchedule}
 use Rattle.tp_placing.specs.LoadedBoard.{StandsOn, board_table}
 use Rattle.tp_placing.specs.Ticks.{HasLeastTick}
-use Rattle.tp_placing.specs.Commits.{AreLeastTicks, CanCommit, IsHeldFrom, retimed_in}
+use Rattle.tp_placing.specs.Commits.{AreLeastTicks, CanCommit, IsHeldFrom, IsWrittenFor, retimed_in}
 use Rattle.tp_placing.proofs.StandFacts.{and-some, some-and, stands-ask}
 use Rattle.tp_placing.proofs.StepFacts.{some-steps}
 use Rattle.tp_constraints.proofs.PointNumbers.{number-at}
 use Rattle.tp_placing.proofs.ReadFacts.{end-point, least-tick}
-use Rattle.tp_placing.proofs.WriteCommit.{IsWritten, written-is}
+use Rattle.tp_placing.proofs.WriteCommit.{IsWritten, made-so, written-is}
 use Rattle.tp_placing.proofs.WriteHeld.{held-part}
 use Rattle.tp_placing.proofs.WritePlans.{none-after, none-before, planned-after}
 use Rattle.tp_placing.proofs.WritePoints.{least-of_plans}
@@ -174,12 +174,15 @@ written-here : (g : _) (c : After-index-newest g) (mid new : List Plan) (p : Pla
     → p ≡ timed_by (settled_ticks c.in-Some.ask (total_of c.in-Some.ask x.choices) t) (asked_plan c.self.inside.plans.items c.in-Some.ask x.choices))
     → p.sheet ≡ c.in-Some.ask.sheet → new ≡ put_plan p (without p.sheet mid) → AllPairs IsEarlier new
     → IsWritten c.args.machine.now c.args.schedule.now.plans c.in-Some.ask ((here g c).at.solved.0 (number (board_table c.self.inside.plans.items (Some (here g c).x)) (own 0))) new
+    × IsWrittenFor c.args.machine.now c.args.schedule.now.plans c.self.inside.plans.items c.in-Some.ask new (here g c).x
 written-here g c mid new p times plan sheet made in_order =
     let a = c.self.inside in
     let h = here g c in
     let s = stands-here g c in
-    written-is c.args.machine.now c.args.schedule.now.plans a.plans.items c.in-Some.ask h.x (board_table a.plans.items (Some h.x)) (g.N.Network.reading.net a.net) h.at.solved.0 (loaded-here g c) s.loadable s.origin h.at.net h.complete h.at.solved.1 mid new p
-    (times (Ticks-here g c) (least-of_plans (g.N.Network.reading.net a.net) a.plans.items h.x (Ticks-here g c) (ticks-here g c))) (plan (Ticks-here g c) h.x h.suffix (ticks-here g c)) sheet made in_order
+    let from = loaded-here g c in
+    let e = made-so c.args.machine.now c.args.schedule.now.plans a.plans.items c.in-Some.ask h.x.choices (Ticks-here g c) from mid new p (times (Ticks-here g c) (least-of_plans (g.N.Network.reading.net a.net) a.plans.items h.x (Ticks-here g c) (ticks-here g c)))
+        (plan (Ticks-here g c) h.x h.suffix (ticks-here g c)) sheet made in
+    written-is c.args.machine.now c.args.schedule.now.plans a.plans.items c.in-Some.ask h.x (board_table a.plans.items (Some h.x)) (g.N.Network.reading.net a.net) h.at.solved.0 from s.loadable s.origin h.at.net h.complete h.at.solved.1 new e in_order
 
 -- its end is the least tick of the asked copy's end
 end-here : (g : _) (c : After-index-newest g) (end : ℕ) → end ≡ (here g c).at.solved.0 (number (board_table c.self.inside.plans.items (Some (here g c).x)) (own 0)) → HasLeastTick c.args.machine.now (board g c) (own 0) end
@@ -198,14 +201,22 @@ returns-clause-least g k =
     let at = goal.at.returns-clause-least g k in
     let c = at.After-index-newest in
     let w = written-here g c k.write_times-moved.new.schedule.plans k.write_plan.new.schedule.plans k.plan_by_steps-plan.result (times-now g at.After-write_times-moved (mine g c) (part-here g c)) (plan-now g at.After-plan_by_steps-plan) k.plan_by_steps-plan.ensures.sheet k.write_plan.ensures.plans k.write_plan.ensures.in_order in
-    rw (← k.self.view_is) (and-some k.self.inside.ask k.in-Some.ask _ k.in-Some.is w.least)
+    rw (← k.self.view_is) (and-some k.self.inside.ask k.in-Some.ask _ k.in-Some.is w.0.least)
 
 pub returns-clause-alternative : goal.returns-clause-alternative
 returns-clause-alternative g k =
     let at = goal.at.returns-clause-alternative g k in
     let c = at.After-index-newest in
     let w = written-here g c k.write_times-moved.new.schedule.plans k.write_plan.new.schedule.plans k.plan_by_steps-plan.result (times-now g at.After-write_times-moved (mine g c) (part-here g c)) (plan-now g at.After-plan_by_steps-plan) k.plan_by_steps-plan.ensures.sheet k.write_plan.ensures.plans k.write_plan.ensures.in_order in
-    rw (← k.self.view_is) (and-some k.self.inside.ask k.in-Some.ask _ k.in-Some.is (w.answer, end-here g c (end_of_plan w.answer.plan) w.ends))
+    rw (← k.self.view_is) (and-some k.self.inside.ask k.in-Some.ask _ k.in-Some.is (w.0.answer, end-here g c (end_of_plan w.0.answer.plan) w.0.ends))
+
+pub returns-clause-written : goal.returns-clause-written
+returns-clause-written g k =
+    let at = goal.at.returns-clause-written g k in
+    let c = at.After-index-newest in
+    let w = written-here g c k.write_times-moved.new.schedule.plans k.write_plan.new.schedule.plans k.plan_by_steps-plan.result (times-now g at.After-write_times-moved (mine g c) (part-here g c)) (plan-now g at.After-plan_by_steps-plan) k.plan_by_steps-plan.ensures.sheet k.write_plan.ensures.plans k.write_plan.ensures.in_order in
+    let by = IsWrittenFor c.args.machine.now c.args.schedule.now.plans k.self.inside.plans.items c.in-Some.ask k.write_plan.new.schedule.plans in
+    rw (← k.self.view_is) (and-some k.self.inside.ask k.in-Some.ask _ k.in-Some.is (and-some (suffix_after k.self.inside.steps.items) (here g c).x by (here g c).suffix w.1))
 
 -- the plans when the asked one is written are those of the schedule at other ticks
 written-before : (g : _) (k : After-write_plan g) → k.write_times-moved.new.schedule.plans ≡ map (retimed_in (filter (mine g (goal.at.returns-clause-new_copy g k).After-index-newest) k.self.inside.plans.items) (Ticks-here g (goal.at.returns-clause-new_copy g k).After-index-newest)) k.args.schedule.now.plans
