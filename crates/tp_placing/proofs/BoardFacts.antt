@@ -28,11 +28,12 @@ pub board-step : (pasts max_marks max_points max_edges edge_capacity : ℕ) (tim
     → IsBoard pasts' max_marks' max_points' max_edges' edge_capacity timelines' held' begins plans firsts steps' marks made' made_for
 board-step pasts max_marks max_points max_edges edge_capacity timelines held begins plans firsts steps marks made made_for b pasts' max_marks' max_points' max_edges' timelines' held' steps' made' p m pr er lp lm lo lh h1 h2 h3 s1 s2 s3 e3 =
     let i = b.marked in let r = b.capacity in
-    let i1 = i.spare in let i2 = i.line_marks in let i3 = i.line_capacity in let i4 = i.board_marks in let i5 = i.mark_space in
+    let i1 = i.spare in let i2 = i.line_marks in let i3 = i.line_capacity in let i4 = i.board_marks in let i5 = i.mark_space in let i6 = i.for_steps in
     let r1 = r.points in let r2 = r.edges in let r2a = r.all_edges in let r3 = r.resources in let r4 = r.holds in let r6 = r.held_space in let r8 = r.steps_space in let r9 = r.edge_space in
     record {
       marked = record {
         spare = omega arith;
+        for_steps = omega arith;
         line_marks = omega arith;
         line_capacity = omega arith;
         board_marks = omega arith;

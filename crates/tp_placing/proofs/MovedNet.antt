@@ -107,6 +107,7 @@ board-moved pasts max_marks max_points max_edges edge_capacity timelines held be
     let line_capacity = i.line_capacity in
     let board_marks = i.board_marks in
     let mark_space = i.mark_space in
+    let for_steps = i.for_steps in
     let points = r.points in
     let edges = r.edges in
     let all_edges = r.all_edges in
@@ -114,6 +115,7 @@ board-moved pasts max_marks max_points max_edges edge_capacity timelines held be
     record {
       marked = record {
         spare = omega arith;
+        for_steps = omega arith;
         line_marks = omega arith;
         line_capacity = omega arith;
         board_marks = omega arith;

@@ -85,7 +85,7 @@ pub written-is : (machine : Machine) (plans held : List Plan) (ask : Ask) (x : S
     → IsWritten machine plans ask (sol (number table (own 0))) new × IsWrittenFor machine plans held ask new x
 written-is machine plans held ask x table net sol from load asked is complete l new e in_order = (
   subst (IsWritten machine plans ask (sol (number table (own 0)))) (sym e)
-  (commits machine plans ask x.choices (ticks_by table sol) (sol (number table (own 0))) from.can_ask (answers machine plans held ask x table net sol from load asked is complete l)
-  (in_order-retimed (filter (is_live machine ask.now) plans) (ticks_by table sol) plans from.can_ask.plan_on.legal.in_order) (subst (AllPairs IsEarlier) e in_order)),
+      (commits machine plans ask x.choices (ticks_by table sol) (sol (number table (own 0))) from.can_ask (answers machine plans held ask x table net sol from load asked is complete l)
+      (in_order-retimed (filter (is_live machine ask.now) plans) (ticks_by table sol) plans from.can_ask.plan_on.legal.in_order) (subst (AllPairs IsEarlier) e in_order)),
   record { ticks = ticks_by table sol; least = least-times machine held ask x table net sol is l; made = e },
 )

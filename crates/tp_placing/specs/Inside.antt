@@ -56,9 +56,11 @@ pub record AreMarks (marks : List BoardMark) (steps held : ℕ) : Type 0 where
   pub steps_rise : (j k : ℕ) (m n : BoardMark) → j < k → slice_get marks j ≡ Some m → slice_get marks k ≡ Some n → m.steps ≤ n.steps
   pub held_rise : (j k : ℕ) (m n : BoardMark) → j < k → slice_get marks j ≡ Some m → slice_get marks k ≡ Some n → m.held ≤ n.held
 
--- as many marks of the network as of the orders and of the board, and one to spare
+-- as many marks of the network as of the orders and of the board, and one to spare. The network takes one for each step that
+-- there can be
 pub record IsMarked (pasts max_marks : ℕ) (timelines : Orders) (marks : Vec BoardMark Global) (steps held : ℕ) : Type 0 where
   pub spare : pasts < max_marks
+  pub for_steps : most_steps ≤ max_marks
   pub line_marks : length timelines.past ≡ pasts
   pub line_capacity : max_marks ≤ timelines.max_marks
   pub board_marks : length marks.items ≡ pasts

@@ -37,7 +37,7 @@ mod tray_neighbours;
 mod undo;
 
 pub use board::Board;
-pub use laws::{marks_keep_boards, tables_are_numbered};
+pub use laws::{boards_have_marks, marks_keep_boards, tables_are_numbered};
 pub use parts::{Change, MadeFor};
 pub use place_walk::Refused;
 pub use reason_names::{Grip, Spot, Why};

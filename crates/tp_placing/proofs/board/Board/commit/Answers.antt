@@ -181,7 +181,7 @@ written-here g c mid new p times plan sheet made in_order =
     let s = stands-here g c in
     let from = loaded-here g c in
     let e = made-so c.args.machine.now c.args.schedule.now.plans a.plans.items c.in-Some.ask h.x.choices (Ticks-here g c) from mid new p (times (Ticks-here g c) (least-of_plans (g.N.Network.reading.net a.net) a.plans.items h.x (Ticks-here g c) (ticks-here g c)))
-        (plan (Ticks-here g c) h.x h.suffix (ticks-here g c)) sheet made in
+    (plan (Ticks-here g c) h.x h.suffix (ticks-here g c)) sheet made in
     written-is c.args.machine.now c.args.schedule.now.plans a.plans.items c.in-Some.ask h.x (board_table a.plans.items (Some h.x)) (g.N.Network.reading.net a.net) h.at.solved.0 from s.loadable s.origin h.at.net h.complete h.at.solved.1 new e in_order
 
 -- its end is the least tick of the asked copy's end

@@ -33,6 +33,7 @@ invariant_of-result g c =
     record {
       marked = record {
         spare = omega arith;
+        for_steps = omega arith;
         line_marks = omega arith;
         line_capacity = omega arith;
         board_marks = omega arith;

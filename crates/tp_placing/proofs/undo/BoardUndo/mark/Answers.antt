@@ -27,11 +27,12 @@ invariant_of-self g c =
     let mr = same-marks kept _ _ c.mark-mark.ensures.capacity in
     let lr = c.mark-line_mark.ensures.capacity in
     let cap = c.push_reserved.ensures.capacity in
-    let i1 = i.spare in let i2 = i.line_marks in let i3 = i.line_capacity in let i4 = i.board_marks in let i5 = i.mark_space in
+    let i1 = i.spare in let i2 = i.line_marks in let i3 = i.line_capacity in let i4 = i.board_marks in let i5 = i.mark_space in let i6 = i.for_steps in
     let r1 = r.points in let r2 = r.edges in let r2a = r.all_edges in let r3 = r.resources in let r4 = r.holds in
     record {
       marked = record {
         spare = omega arith;
+        for_steps = omega arith;
         line_marks = omega arith;
         line_capacity = omega arith;
         board_marks = omega arith;

@@ -40,7 +40,7 @@ invariant_of-self g c =
     let r = c.self.invariant.capacity in
     let k = c.args.mark.0 in
     let q = rw (← c.self.view_is, length-side a.held.items a.steps.items (g.N.Network.reading.past a.net) a.timelines.past a.marks.items i.line_marks i.board_marks) at c.requires in
-    let i1 = i.spare in let i2 = i.line_marks in let i3 = i.line_capacity in let i4 = i.board_marks in let i5 = i.mark_space in
+    let i1 = i.spare in let i2 = i.line_marks in let i3 = i.line_capacity in let i4 = i.board_marks in let i5 = i.mark_space in let i6 = i.for_steps in
     let mo = a.marks.ok.0 in
     let at = slice_get_read a.marks.items (length a.marks.items) k c.index-counts.result.now refl (omega arith) c.index-counts.ensures in
     let s = i.at_marks.steps_below k c.index-counts.result.now at in
@@ -64,6 +64,7 @@ invariant_of-self g c =
     record {
       marked = record {
         spare = omega arith;
+        for_steps = omega arith;
         line_marks = omega arith;
         line_capacity = omega arith;
         board_marks = omega arith;
