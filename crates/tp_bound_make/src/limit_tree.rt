@@ -1,12 +1,13 @@
 //! The tree of an ask: a walk below each goal state.
 ghost use Rattle.std.specs.Prelude.{◌≡◌, ◌<◌, ◌≤◌, [], ◌∷◌, All, None, IfErr, IfOk, OnOk, length, map, pos};
 ghost use Rattle.tp_machine.specs.declared.parts.State.{State};
-ghost use Rattle.tp_placing.specs.Boards.{suffix_of};
+ghost use Rattle.tp_placing.specs.Boards.{past_of, suffix_of};
 ghost use Rattle.tp_routes.specs.Tables.{IsKnownOrigin};
 ghost use Rattle.tp_schedule.specs.Answers.{kept_of};
 ghost use Rattle.tp_schedule.specs.Limits.{most_acts};
 ghost use Rattle.tp_schedule.specs.Plans.{AreNamed};
 ghost use Rattle.tp_schedule.specs.Routes.{IsGoalState};
+ghost use Rattle.tp_bound_make.specs.RoomRows.{AreOrderedRows};
 ghost use Rattle.tp_bound_make.specs.TreeLimits.{FitsAsk};
 ghost use Rattle.tp_bound_make.specs.TreeProgress.{HasMarks, IsBack, IsEarlyEnd, IsSet, Shows};
 ghost use Rattle.tp_bound_laws.specs.Places.Due.{goal};
@@ -22,7 +23,7 @@ use std::alloc::Global;
 use tp_base::{Memory, Network, Tick, Undo};
 use tp_bounds::{BoundTree, Nodes};
 use tp_machine::{Machine, State};
-use tp_placing::{Board, marks_keep_boards};
+use tp_placing::{Board, boards_have_marks, marks_keep_boards};
 use tp_routes::Rooms;
 use tp_schedule::Ask;
 
@@ -96,10 +97,11 @@ fn show_goals<N: Network>(
     Ok(())
 }
 
-/// A tree that shows that no alternative ends by the limit, a tick: room rows, and a node for each
-/// way that comes by it, with the reason why it goes no further. Hops are few, since no chain and no
-/// loop passes a point twice. `Early` comes only where some alternative ends by the limit. Leaves
-/// the board as it was. Where memory runs out, the call may be made again.
+/// A tree that shows that no alternative ends by the limit, a tick: room rows in their order, and a
+/// node for each way that comes by it, with the reason why it goes no further. Hops are few, since no
+/// chain and no loop passes a point twice. `Early` comes only where some alternative ends by the
+/// limit. No mark of the board is in force. Leaves the board as it was. Where memory runs out, the
+/// call may be made again.
 pub fn show_limit<N: Network>(
     alloc: Global,
     rooms: &Rooms,
@@ -114,15 +116,18 @@ pub fn show_limit<N: Network>(
     requires origin { IsKnownOrigin machine.now ask.now.origin }
     requires closed { suffix_of board.old ≡ None }
     requires kept { kept_of ask.now ≤ most_acts }
-    requires marks { HasMarks N.reading 326 board.old }
+    requires unmarked { past_of N.reading board.old ≡ [] }
     ensures tree { IfOk result (IsBoundTree machine.entry.now board.old.plans ask.entry.now
         (pos limit)) }
+    ensures rows { IfOk result (λ tree. AreOrderedRows machine.entry.now ask.entry.now
+        tree.rows) }
     ensures short { IfOk result HasFewHops }
     ensures early { IfErr result (IsEarlyEnd machine.entry.now board.old.plans ask.entry.now
         limit) }
     ensures back { IsBack N.reading board.old board.new
         machine.entry.now }
 {
+    boards_have_marks(board);
     let scene = ShowScene {
         alloc,
         rooms,

@@ -2,7 +2,7 @@
 ghost use Rattle.std.specs.Prelude.{◌≡◌, ◌+◌, ◌*◌, ◌<◌, ◌++◌, IfOk, OnOk, length};
 ghost use Rattle.tp_routes.specs.Tables.{AreRooms, IsKnownOrigin, IsMadeFor, sum_at};
 ghost use Rattle.tp_schedule.specs.declared.parts.Ask.{Ask};
-ghost use Rattle.tp_bound_make.specs.RoomRows.{HasRooms, named, row_by};
+ghost use Rattle.tp_bound_make.specs.RoomRows.{HasRooms, named, row_by, rows_below};
 ghost use Rattle.tp_bound_laws.specs.Rows.{AreRoomRows};
 
 use std::alloc::Global;
@@ -45,6 +45,8 @@ fn put_row(rows: &mut TreeRows, rooms: &Rooms, machine: &Machine, number: u32) -
 /// A row for each state that has room, by the numbers of the states.
 pub(crate) fn rows_of(alloc: Global, rooms: &Rooms, machine: &Machine) -> Result<TreeRows, Memory>
     requires made { IsMadeFor rooms.now machine.now }
+    ensures order { IfOk result (λ rows. rows
+        ≡ rows_below machine.now rooms.now.sums (length machine.now.locations * 8)) }
     ensures rows { IfOk result (HasRooms machine.now rooms.now.sums) }
     ensures are { IfOk result (λ rows. (ask : Ask) → IsKnownOrigin machine.now ask.origin
         → AreRooms machine.now ask rooms.now.sums → AreRoomRows machine.now ask rows) }

@@ -1,5 +1,5 @@
 -- What a search found is a trial: its end is that of the earliest plans, and what is committed is one of them.
-use Rattle.std.proofs.Common.{◌≡◌, ℕ, ◌-◌, ◌<◌, ◌≤◌, List, ap, length, filter, sym, subst, ◌∙◌, Some, IsSomeAnd, arith}
+use Rattle.std.proofs.Common.{◌≡◌, ℕ, ◌-◌, ◌<◌, ◌≤◌, List, [], ap, length, filter, sym, subst, ◌∙◌, Some, IsSomeAnd, arith}
 use Rattle.std.proofs.lemmas.List.{length-map}
 use Rattle.tp_base.specs.Readings.{Reading}
 use Rattle.tp_machine.specs.Machines.{IsMachine}
@@ -20,7 +20,7 @@ use Rattle.tp_choices.specs.LiveParts.{forgotten_on, shift_choice, shifted}
 use Rattle.tp_choices.proofs.CompleteAnswers.{complete_answers}
 use Rattle.tp_choices.proofs.LiveLists.{live_opens}
 use Rattle.tp_choices.proofs.ShiftedLists.{acts-shifted}
-use Rattle.tp_placing.specs.Boards.{BoardValue, suffix_of}
+use Rattle.tp_placing.specs.Boards.{BoardValue, past_of, suffix_of}
 use Rattle.tp_placing.specs.Laws.{UndoKeeps}
 use Rattle.tp_placing.specs.Ticks.{HasLeastTick, IsLeastTick, TimesOf}
 use Rattle.tp_placing.specs.Commits.{CanCommit}
@@ -81,11 +81,12 @@ module _ (machine : Machine) (plans : List Plan) (ask : Ask) (can : CanAsk machi
 
 module _ {N : Type 0} (reading : Reading N) (b : BoardValue N) (machine : Machine) (trial : Trial N) where
   -- what a search found is a trial to the least end of its board
-  pub answer-trial : (ask : Ask) → IsReady reading b machine ask → IsMachine machine → IsKnownGoal machine ask.goal → HasAnswer reading b (board_in trial) machine ask trial.base.0 → HasLeastTick machine (board_in trial) (own 0) trial.end
+  pub answer-trial : (ask : Ask) → IsReady reading b machine ask → past_of reading b ≡ [] → IsMachine machine → IsKnownGoal machine ask.goal → HasAnswer reading b (board_in trial) machine ask trial.base.0 → HasLeastTick machine (board_in trial) (own 0) trial.end
       → IsTrial reading b machine trial
-  answer-trial ask ready is-machine known a least =
+  answer-trial ask ready unmarked is-machine known a least =
       let b' = board_in trial in
       record {
+        unmarked = unmarked;
         number = a.number;
         kept = a.kept;
         past_more = a.past_more;

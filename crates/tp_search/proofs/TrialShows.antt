@@ -87,6 +87,7 @@ module _ {N : Type 0} (reading : Reading N) (b : BoardValue N) (machine : Machin
 
     pub again-trial : IsTrial reading b machine trial'
     again-trial = record {
+      unmarked = t.unmarked;
       number = since.number;
       kept = since.kept;
       past_more = since.past_more;

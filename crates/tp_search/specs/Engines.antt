@@ -1,5 +1,5 @@
 -- A workspace and a board that answer asks together.
-use Rattle.std.specs.Prelude.{◌≡◌, ℕ, ◌≤◌, Bool, false, true, List, [], ◌∷◌, ◌++◌, Option, Some, None, IsSomeAnd}
+use Rattle.std.specs.Prelude.{◌≡◌, ℕ, Bool, false, true, List, [], ◌∷◌, ◌++◌, Option, Some, None, IsSomeAnd}
 use Rattle.std.specs.Bool.{MatchBool}
 use Rattle.tp_base.specs.Readings.{Reading}
 use Rattle.tp_bounds.specs.declared.tree.BoundTree.{BoundTree}
@@ -14,7 +14,6 @@ use Rattle.tp_schedule.specs.declared.parts.Reply.{Reply}
 use Rattle.tp_schedule.specs.declared.parts.Reply.TheVariants.{Never, Planned, Spent}
 use Rattle.tp_bound_laws.specs.Short.{IsShortTreeFor}
 use Rattle.tp_bound_laws.specs.declared.claim.Claim.TheVariants.{Earliest, Never as NeverClaim}
-use Rattle.tp_placing.specs.Inside.{most_steps}
 use Rattle.tp_placing.specs.Boards.{BoardValue}
 use Rattle.tp_placing.specs.KeptBoard.{HoldsOthers}
 use Rattle.tp_routes.specs.Tables.{KeepsRooms}
@@ -31,10 +30,9 @@ pub record EngineValue (N : Type 0) : Type 0 where
   pub bounds : Bool
   pub trees : List BoundTree
 
--- both were made for the same numbers, and the board has the marks that a search sets and a tree is made with
-pub record IsEngine {N : Type 0} (reading : Reading N) (work : WorkspaceValue) (board : BoardValue N) : Type 0 where
+-- both were made for the same numbers
+pub record IsEngine {N : Type 0} (work : WorkspaceValue) (board : BoardValue N) : Type 0 where
   pub made : board.made_for ≡ numbers_of work
-  pub marks : most_steps ≤ reading.max_marks board.net
 
 -- it was made for a machine with these numbers; where the board is kept, it is at rest on this machine
 pub record Serves {N : Type 0} (reading : Reading N) (e : EngineValue N) (machine : Machine) : Type 0 where

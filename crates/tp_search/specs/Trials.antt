@@ -1,5 +1,5 @@
 -- What a trial is: its board carries an earliest plan, laid since a mark. And what holds where there is no plan.
-use Rattle.std.specs.Prelude.{◌≡◌, ℕ, ◌-◌, List, ◌∷◌, ◌++◌, length, Some, IsSomeAnd}
+use Rattle.std.specs.Prelude.{◌≡◌, ℕ, ◌-◌, List, [], ◌∷◌, ◌++◌, length, Some, IsSomeAnd}
 use Rattle.std.specs.Borrow.{GName}
 use Rattle.tp_base.specs.Readings.{Reading}
 use Rattle.tp_machine.specs.declared.machine.Machine.{Machine}
@@ -51,8 +51,10 @@ pub record IsSameTrial {N : Type 0} (trial trial' : Trial N) : Type 0 where
 
 module _ {N : Type 0} (reading : Reading N) where
   -- the trial's board carries a plan of its ask that can be committed and ends as the trial tells, and no alternative ends
-  -- before. It was laid since the trial's mark, which was made on the first board, a board without choices
+  -- before. It was laid since the trial's mark, which was made on the first board, a board without choices and without a mark in
+  -- force
   pub record IsTrial (b : BoardValue N) (machine : Machine) (trial : Trial N) : Type 0 where
+    pub unmarked : past_of reading b ≡ []
     pub number : trial.base.0 ≡ length (past_of reading b)
     pub kept : List BoardContent
     pub past_more : past_of reading (board_in trial) ≡ past_of reading b ++ content_of reading b ∷ kept

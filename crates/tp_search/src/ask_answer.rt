@@ -6,7 +6,6 @@ ghost use Rattle.tp_schedule.specs.SpentBudget.{FewListsOpen};
 ghost use Rattle.tp_schedule.specs.declared.parts.Reply.TheVariants.{Never, Planned};
 ghost use Rattle.tp_schedule.specs.declared.parts.Plan.{Plan};
 ghost use Rattle.tp_placing.specs.Calls.{IsSameLoad};
-ghost use Rattle.tp_placing.specs.Inside.{most_steps};
 ghost use Rattle.tp_placing.specs.LoadedBoard.{IsMadeFor};
 ghost use Rattle.tp_placing.specs.Commits.{IsHeldFrom, IsLoadedFrom};
 ghost use Rattle.tp_routes.specs.Tables.{KeepsRooms};
@@ -22,7 +21,7 @@ use std::alloc::Global;
 use tp_base::{Memory, Network, Tick, Undo};
 use tp_bounds::BoundTree;
 use tp_machine::Machine;
-use tp_placing::Board;
+use tp_placing::{Board, boards_have_marks};
 use tp_schedule::{Ask, Reply, Schedule};
 
 /// Answers an ask on a schedule: writes the earliest plan into it, or leaves it as it is and tells that there is none, or
@@ -37,7 +36,6 @@ pub fn answer<N: Network>(
 ) -> Reply
     requires work { IsFor work.old machine.now }
     requires board { IsMadeFor board.old.made_for machine.now }
-    requires marks { 8 ≤ N.reading.max_marks board.old.net }
     requires can { CanAsk machine.now schedule.old.plans ask.now }
     requires spare { plan_of ask.now.sheet schedule.old.plans ≡ None → 0 < schedule.old.spare }
     ensures answer { IsAnswer
@@ -79,7 +77,6 @@ pub(crate) fn answer_loaded<N: Network>(
 ) -> Answered
     requires work { IsFor work.old machine.now }
     requires rooms { KeepsRooms work.old.rooms machine.now }
-    requires marks { 8 ≤ N.reading.max_marks board.old.net }
     requires held { IsHeldFrom machine.now schedule.old.plans ask.now board.old.plans }
     requires asked { board.old.ask ≡ Some ask.now }
     requires rests { IsAtRest N.reading board.old machine.now }
@@ -104,6 +101,7 @@ pub(crate) fn answer_loaded<N: Network>(
     ensures marks { N.reading.max_marks board.new.net ≡ N.reading.max_marks board.old.net }
     ensures rests { IsAtRest N.reading board.new machine.now }
 {
+    boards_have_marks(board);
     match find_plan(board, work, machine, ask) {
         Ok(trial) => {
             let moved = trial.commit(machine, schedule);
@@ -132,7 +130,6 @@ pub(crate) fn earliest_end<N: Network>(
 ) -> Result<Tick, NoPlan>
     requires work { IsFor work.old machine.now }
     requires rooms { KeepsRooms work.old.rooms machine.now }
-    requires marks { 8 ≤ N.reading.max_marks board.old.net }
     requires held { (plans : List Plan)
         × IsHeldFrom machine.now plans ask.now board.old.plans }
     requires asked { board.old.ask ≡ Some ask.now }
@@ -149,6 +146,7 @@ pub(crate) fn earliest_end<N: Network>(
     ensures marks { N.reading.max_marks board.new.net ≡ N.reading.max_marks board.old.net }
     ensures rests { IsAtRest N.reading board.new machine.now }
 {
+    boards_have_marks(board);
     match find_plan(board, work, machine, ask) {
         Ok(trial) => {
             let end = trial.end();
@@ -178,7 +176,6 @@ pub(crate) fn answer_with_tree<N: Network>(
 ) -> Result<Shown, Memory>
     requires work { IsFor work.old machine.now }
     requires rooms { KeepsRooms work.old.rooms machine.now }
-    requires marks { most_steps ≤ N.reading.max_marks board.old.net }
     requires loaded { IsLoadedFrom machine.now schedule.old.plans ask.now board.old.plans }
     requires asked { board.old.ask ≡ Some ask.now }
     requires rests { IsAtRest N.reading board.old machine.now }
@@ -200,6 +197,7 @@ pub(crate) fn answer_with_tree<N: Network>(
     ensures marks { N.reading.max_marks board.new.net ≡ N.reading.max_marks board.old.net }
     ensures rests { IsAtRest N.reading board.new machine.now }
 {
+    boards_have_marks(board);
     match find_plan(board, work, machine, ask) {
         Ok(mut trial) => match trial.show(alloc, work, machine) {
             Ok(tree) => {

@@ -68,7 +68,7 @@ impl<N: Network> Model for Engine<N> {
       trees = e.trees.items;
     } };
 
-    ghost invariant = { λ e. IsEngine N.reading e.work e.board };
+    ghost invariant = { λ e. IsEngine e.work e.board };
 }
 
 impl<N: Network + Drop> Engine<N> {

@@ -5,14 +5,15 @@ ghost use Rattle.tp_machine.specs.declared.machine.Machine.{Machine as MachineVa
 ghost use Rattle.tp_schedule.specs.Answers.{IsLeast, follows_front};
 ghost use Rattle.tp_schedule.specs.Plans.{plan_of, without};
 ghost use Rattle.tp_schedule.specs.declared.parts.Plan.{Plan};
-ghost use Rattle.tp_placing.specs.Boards.{BoardValue, past_of};
+ghost use Rattle.tp_placing.specs.Boards.{BoardValue, past_of, suffix_of};
 ghost use Rattle.tp_placing.specs.LoadedBoard.{Stands};
-ghost use Rattle.tp_placing.specs.Commits.{IsHeldFrom, IsLoadedFrom};
+ghost use Rattle.tp_placing.specs.Commits.{IsHeldFrom, IsLoadedFrom, IsWrittenFor};
 ghost use Rattle.tp_placing.specs.contracts.board.Board.{the_row};
 ghost use Rattle.tp_routes.specs.Tables.{KeepsRooms};
-ghost use Rattle.tp_search.specs.Boards.{HasMarks, IsBack};
+ghost use Rattle.tp_search.specs.Boards.{IsBack};
 ghost use Rattle.tp_search.specs.Trials.{EndsEarliest, IsEarliestTo, IsNoPlan, IsSameTrial, IsTrial, board_in, borrow_in, end_in};
 ghost use Rattle.tp_search.specs.Workspaces.{IsFor, StaysFor};
+ghost use Rattle.tp_bound_make.specs.RoomRows.{AreOrderedRows};
 ghost use Rattle.tp_bound_laws.specs.Short.{IsShortTreeFor};
 ghost use Rattle.tp_bound_laws.specs.declared.claim.Claim.TheVariants.{Earliest};
 
@@ -24,7 +25,7 @@ use std::alloc::Global;
 use tp_base::{Mark, Memory, Network, Tick, Undo};
 use tp_bounds::BoundTree;
 use tp_machine::Machine;
-use tp_placing::{Board, marks_keep_boards};
+use tp_placing::{Board, boards_have_marks, marks_keep_boards};
 use tp_schedule::{Ask, Schedule};
 
 /// Why there is no plan: there can be none, or the workspace stores too few lists to tell. With `Spent` none ends before the
@@ -57,7 +58,6 @@ pub fn plan<'b, N: Network>(
     requires asked { board.old.ask ≡ Some ask.now }
     requires closed { board.old.steps ≡ [] }
     requires unmarked { past_of N.reading board.old ≡ [] }
-    requires marks { 8 ≤ N.reading.max_marks board.old.net }
     ensures* rests { sem 𝓛
         (RestsIfErr (the_row N.row N.Network.own N.Undo) board.entry borrow_in result
         (λ new. IsBack N.reading board.old new machine.now)) }
@@ -90,7 +90,6 @@ pub(crate) fn find_plan<'b, N: Network>(
     requires asked { board.old.ask ≡ Some ask.now }
     requires closed { board.old.steps ≡ [] }
     requires unmarked { past_of N.reading board.old ≡ [] }
-    requires marks { 8 ≤ N.reading.max_marks board.old.net }
     ensures* rests { sem 𝓛
         (RestsIfErr (the_row N.row N.Network.own N.Undo) board.entry borrow_in result
         (λ new. IsBack N.reading board.old new machine.now)) }
@@ -125,7 +124,7 @@ impl<N: Network> Trial<'_, N> {
     }
 
     /// A tree that shows that no alternative ends before the trial does, for the schedule and the ask that the board was
-    /// loaded for. The trial is as before, whatever the answer. Where memory runs out, the call may be made again.
+    /// loaded for. Its room rows stand by locations, then F before B, then by front done, then by back done. The trial is as before, whatever the answer. Where memory runs out, the call may be made again.
     pub fn show(
         &mut self,
         alloc: Global,
@@ -133,14 +132,14 @@ impl<N: Network> Trial<'_, N> {
         machine: &Machine,
     ) -> Result<BoundTree, Memory>
         requires work { IsFor work.old machine.now }
-        requires trial { (b : BoardValue N)
-            × (IsTrial N.reading b machine.now self.old
-            × HasMarks N.reading 326 b) }
+        requires trial { (b : BoardValue N) × IsTrial N.reading b machine.now self.old }
         requires loaded { IsSomeAnd (board_in self.old).ask (λ ask. (plans : List Plan)
             × IsLoadedFrom machine.now plans ask (board_in self.old).plans) }
         ensures tree { IsSomeAnd (board_in self.old).ask (λ ask. (plans : List Plan)
             → IsLoadedFrom machine.now plans ask (board_in self.old).plans
             → IfOk result (IsShortTreeFor machine.now plans ask (Earliest (end_in self.old)))) }
+        ensures rows { IsSomeAnd (board_in self.old).ask
+            (λ ask. IfOk result (λ tree. AreOrderedRows machine.now ask tree.rows)) }
         ensures trial { (b : BoardValue N)
             → IsTrial N.reading b machine.now self.old
             → IsTrial N.reading b machine.now self.new }
@@ -160,12 +159,13 @@ impl<N: Network> Trial<'_, N> {
         };
         self.board.undo_to(self.base);
         let tree = show_earliest(alloc, work, self.board, machine, &ask, self.end);
+        boards_have_marks(self.board);
         self.base = self.board.mark();
         lay_again(self.board, machine, &ask, changes.as_slice());
         tree
     }
 
-    /// Writes the plan, and the times of all live plans with it, into the schedule of which the board holds the live plans, and
+    /// Writes the plan that the board carries, and the times of all live plans with it, into the schedule of which the board holds the live plans, and
     /// takes it off the board, which is then as before `plan`. Takes one spare plan for a new copy, and no memory. Answers whether
     /// another plan moved. The board holds the schedule as it was: whoever asks next renews it.
     pub fn commit(self, machine: &Machine, schedule: &mut Schedule) -> bool
@@ -178,6 +178,10 @@ impl<N: Network> Trial<'_, N> {
         ensures earliest { IsSomeAnd (board_in self.entry).ask
             (λ ask. IsEarliestTo machine.now schedule.old.plans ask
             (end_in self.entry) schedule.new.plans) }
+        ensures written { IsSomeAnd (board_in self.entry).ask
+            (λ ask. IsSomeAnd (suffix_of (board_in self.entry))
+            (IsWrittenFor machine.now schedule.old.plans (board_in self.entry).plans ask
+            schedule.new.plans)) }
         ensures least { IsSomeAnd (board_in self.entry).ask
             (λ ask. IsLeast machine.now ask.now (follows_front ask) schedule.new.plans) }
         ensures unmoved { result ≡ false → IsSomeAnd (board_in self.entry).ask

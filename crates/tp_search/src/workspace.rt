@@ -13,6 +13,7 @@ ghost use Rattle.tp_search.specs.Workspaces.{IsFor, StaysFor};
 ghost use Rattle.tp_search.specs.declared.best_first.Outcome.TheVariants.{Again};
 ghost use Rattle.tp_search.specs.declared.store.Limit.TheVariants.{Unsought};
 ghost use Rattle.tp_bound_make.specs.Closes.{IsLimit};
+ghost use Rattle.tp_bound_make.specs.RoomRows.{AreOrderedRows};
 ghost use Rattle.tp_bound_make.specs.TreeProgress.{IsEarlyEnd};
 ghost use Rattle.tp_bound_laws.specs.Short.{HasFewHops};
 ghost use Rattle.tp_bound_laws.specs.Trees.{IsBoundTree};
@@ -27,7 +28,7 @@ use tp_base::{Memory, Network, Tick, Undo};
 use tp_bound_make::{NotShown, show_limit};
 use tp_bounds::BoundTree;
 use tp_machine::Machine;
-use tp_placing::Board;
+use tp_placing::{Board, boards_have_marks};
 use tp_routes::Rooms;
 use tp_schedule::Ask;
 
@@ -98,13 +99,13 @@ impl Workspace {
         requires asked { board.old.ask ≡ Some ask.now }
         requires closed { board.old.steps ≡ [] }
         requires unmarked { past_of N.reading board.old ≡ [] }
-        requires marks { 8 ≤ N.reading.max_marks board.old.net }
         ensures outcome { IsOutcome N.reading board.old board.new
             machine.now ask.entry.now self.old.nodes result }
         ensures whole { result ≢ Again }
         ensures stays { StaysFor machine.now self.old self.new }
         ensures rooms { KeepsRooms self.new.rooms machine.now }
     {
+        boards_have_marks(board);
         self.rooms.renew(machine, ask);
         let outcome = self.search_to(board, machine, ask, Limit::Sought);
         match outcome {
@@ -146,7 +147,7 @@ impl Workspace {
     }
 
     /// Makes a tree that shows that no alternative of the ask, for which the board is loaded with no
-    /// goal open, ends by the limit. Leaves the board as it was.
+    /// goal open and no mark in force, ends by the limit. Leaves the board as it was.
     pub(crate) fn show<N: Network>(
         &mut self,
         alloc: Global,
@@ -160,9 +161,10 @@ impl Workspace {
             × IsLoadedFrom machine.now plans ask.now board.old.plans }
         requires ready { IsReady N.reading board.old machine.now ask.now }
         requires limit { IsLimit machine.now ask.now (pos limit) }
-        requires marks { HasMarks N.reading 326 board.old }
+        requires unmarked { past_of N.reading board.old ≡ [] }
         ensures tree { IfOk result (IsBoundTree machine.now board.old.plans ask.entry.now
             (pos limit)) }
+        ensures rows { IfOk result (λ tree. AreOrderedRows machine.now ask.entry.now tree.rows) }
         ensures short { IfOk result HasFewHops }
         ensures early { IfErr result (IsEarlyEnd machine.now board.old.plans ask.entry.now limit) }
         ensures back { IsBack N.reading board.old board.new machine.now }

@@ -1,4 +1,4 @@
-use Rattle.std.proofs.Common.{◌∙◌, ◌<◌, All, length, sym, subst}
+use Rattle.std.proofs.Common.{◌∙◌, ◌<◌, All, ap, arith, length, sym, subst}
 use Rattle.tp_machine.specs.declared.parts.State.{State}
 use Rattle.std.specs.Prelude.{pos}
 use Rattle.tp_schedule.specs.Routes.{IsGoalState}
@@ -33,3 +33,9 @@ returns-in-Ok-show_goals-clause-tree g c = record {
 
 pub returns-in-Ok-show_goals-clause-short : goal.returns-in-Ok-show_goals-clause-short
 returns-in-Ok-show_goals-clause-short g c = (covered g (goal.at.returns-in-Ok-show_goals-clause-short g c).In-Ok-show_goals).1
+
+pub show_goals-requires-clause-marks : goal.show_goals-requires-clause-marks
+show_goals-requires-clause-marks g c = (let none = ap length c.requires.unmarked in let marks = c.boards_have_marks.ensures in omega (arith, none, marks))
+
+pub returns-in-Ok-show_goals-clause-rows : goal.returns-in-Ok-show_goals-clause-rows
+returns-in-Ok-show_goals-clause-rows g c = record { sums = c.args.rooms.now.sums; rooms = c.requires.fits.rooms; made = c.in-Ok.ensures.order }

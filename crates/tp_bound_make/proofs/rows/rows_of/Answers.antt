@@ -15,3 +15,6 @@ returns-clause-rows c = subst (HasRooms c.args.machine.now c.args.rooms.now.sums
 
 pub returns-clause-are : goal.returns-clause-are
 returns-clause-are c = λ ask origin are. subst (AreRoomRows c.args.machine.now ask) (sym (whole c)) (are-rows c.args.machine.now c.args.rooms.now.sums ask origin are)
+
+pub returns-clause-order : goal.returns-clause-order
+returns-clause-order c = whole c

@@ -1,5 +1,5 @@
 -- The trial and its tree are of the ask for which the board was loaded.
-use Rattle.std.proofs.Common.{◌≡◌, ℕ, ◌+◌, ◌-◌, ◌≤◌, List, length, refl, sym, ap, subst, ◌∙◌, IsSomeAnd, arith, rules}
+use Rattle.std.proofs.Common.{◌≡◌, List, refl, sym, subst, ◌∙◌, IsSomeAnd, rules}
 use Rattle.tp_schedule.specs.Answers.{IsLeast, follows_front}
 use Rattle.tp_schedule.specs.Plans.{without}
 use Rattle.tp_schedule.specs.declared.parts.Plan.{Plan}
@@ -15,12 +15,9 @@ use Rattle.tp_search.specs.declared.trial.NoPlan.TheVariants.{Never}
 use Rattle.tp_search.proofs.ask_answer.answer_with_tree.Goals as goal
 use Rattle.tp_search.proofs.ask_answer.answer_with_tree.Goals.{In-Err-Never}
 
-has-marks : (marks past : ℕ) → past ≡ 0 → 330 ≤ marks → past + 326 ≤ marks - 1
-has-marks marks past none many = omega (arith, none, many)
-
 pub show-requires-clause-trial : goal.show-requires-clause-trial
 show-requires-clause-trial g c =
-    (c.args.board.now, (c.in-Ok.ensures.trial, has-marks _ _ (ap length c.requires.rests.unmarked) c.requires.marks))
+    (c.args.board.now, c.in-Ok.ensures.trial)
 
 pub show-requires-clause-loaded : goal.show-requires-clause-loaded
 show-requires-clause-loaded g c =
@@ -103,7 +100,7 @@ returns-in-Ok-show-clause-unmoved g c e =
 
 pub returns-in-Ok-show-clause-marks : goal.returns-in-Ok-show-clause-marks
 returns-in-Ok-show-clause-marks g c =
-    let same = same-marks (g.N.Network.reading.max_marks c.args.board.now.net) (g.N.Network.reading.max_marks c.commit-moved.new.self.0.net) (c.commit-moved.ensures.back c.args.board.now c.args.machine.now (c.show.ensures.trial c.args.board.now c.in-Ok.ensures.trial)).marks c.requires.marks in
+    let same = same-marks (g.N.Network.reading.max_marks c.args.board.now.net) (g.N.Network.reading.max_marks c.commit-moved.new.self.0.net) (c.commit-moved.ensures.back c.args.board.now c.args.machine.now (c.show.ensures.trial c.args.board.now c.in-Ok.ensures.trial)).marks c.boards_have_marks.ensures in
     search rules
 
 pub returns-in-Ok-show-clause-rests : goal.returns-in-Ok-show-clause-rests

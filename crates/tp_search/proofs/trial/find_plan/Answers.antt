@@ -19,7 +19,7 @@ returns-in-Found g c =
         same_reference = refl;
         trial = answer-trial g.N.Network.reading c.args.board.now c.args.machine.now
             (record { board = record c.args.board { now = c.search.new.board }; base = c.in-Found.base; end = c.end_bound-end.result }) c.args.ask.now
-            (record { stands = c.requires.stands; asked = c.requires.asked; closed = ap suffix_after c.requires.closed }) (is_machine c.args.machine.now) known a least;
+            (record { stands = c.requires.stands; asked = c.requires.asked; closed = ap suffix_after c.requires.closed }) c.requires.unmarked (is_machine c.args.machine.now) known a least;
         end = λ plans from. subst (EndsEarliest c.args.machine.now plans c.args.ask.now) (sym same)
             (ends-earliest-from c.args.machine.now plans c.args.ask.now c.args.board.now.plans from a.list a.bound (is_machine c.args.machine.now) known a.complete a.is_bound a.none_before);
         none = λ plans from. tt;

@@ -1,5 +1,5 @@
 -- The board is taken back to where the trial began, and what it carried is laid again.
-use Rattle.std.proofs.Common.{◌≡◌, refl, sym, ap, subst, ◌∙◌, Some}
+use Rattle.std.proofs.Common.{◌≡◌, arith, length, refl, sym, ap, subst, ◌∙◌, Some}
 use Rattle.tp_machine.proofs.MachineFacts.{is_machine}
 use Rattle.tp_schedule.specs.Answers.{NoneBefore}
 use Rattle.tp_placing.specs.Boards.{BoardValue, suffix_of}
@@ -33,19 +33,19 @@ back g c b t = trial-back g.N.Network.reading b c.args.machine.now c.args.self.n
 pub show_earliest-tree-requires-clause-none : goal.show_earliest-tree-requires-clause-none
 show_earliest-tree-requires-clause-none g c =
     let k = (goal.at.show_earliest-tree-requires-clause-none g c).After-undo_to in
-    let first = end-first g.N.Network.reading c.requires.trial.0 c.args.machine.now c.args.self.now c.requires.trial.1.0 c.in-Some.ask (asked g k) in
+    let first = end-first g.N.Network.reading c.requires.trial.0 c.args.machine.now c.args.self.now c.requires.trial.1 c.in-Some.ask (asked g k) in
     subst (λ ps. NoneBefore c.args.machine.now ps c.in-Some.ask c.args.self.now.end) (sym (plans g k)) first
 
 pub show_earliest-tree-requires-clause-some : goal.show_earliest-tree-requires-clause-some
 show_earliest-tree-requires-clause-some g c =
     let k = (goal.at.show_earliest-tree-requires-clause-some g c).After-undo_to in
-    end-some g.N.Network.reading c.requires.trial.0 c.args.machine.now c.args.self.now c.requires.trial.1.0 c.in-Some.ask (asked g k) (is_machine c.args.machine.now)
+    end-some g.N.Network.reading c.requires.trial.0 c.args.machine.now c.args.self.now c.requires.trial.1 c.in-Some.ask (asked g k) (is_machine c.args.machine.now)
 
 pub show_earliest-tree-requires-clause-ready : goal.show_earliest-tree-requires-clause-ready
 show_earliest-tree-requires-clause-ready g c =
     let k = (goal.at.show_earliest-tree-requires-clause-ready g c).After-undo_to in
     let b = c.requires.trial.0 in
-    let t = c.requires.trial.1.0 in
+    let t = c.requires.trial.1 in
     ready-back g.N.Network.reading b c.undo_to.new.self c.args.machine.now c.in-Some.ask (back g k b t)
     (base-ready g.N.Network.reading b c.args.machine.now c.args.self.now t c.in-Some.ask (asked g k))
 
@@ -62,7 +62,7 @@ pub lay_again-requires-clause-ready : goal.lay_again-requires-clause-ready
 lay_again-requires-clause-ready g c =
     let k = goal.at.lay_again-requires-clause-ready g c in
     let b = c.requires.trial.0 in
-    let t = c.requires.trial.1.0 in
+    let t = c.requires.trial.1 in
     ready-marked g.N.Network.reading g.N.Undo.untouched c.marks_keep_boards.ensures.mark b c.show_earliest-tree.new.board c.mark-self.new.self c.args.machine.now c.in-Some.ask c.mark-self.result.0
     (base-ready g.N.Network.reading b c.args.machine.now c.args.self.now t c.in-Some.ask (asked g k.After-undo_to)) (shown g k.After-mark-self b t) (marked g k.After-mark-self)
 
@@ -70,10 +70,31 @@ pub lay_again-requires-clause-can : goal.lay_again-requires-clause-can
 lay_again-requires-clause-can g c =
     let k = goal.at.lay_again-requires-clause-can g c in
     let b = c.requires.trial.0 in
-    let t = c.requires.trial.1.0 in
+    let t = c.requires.trial.1 in
     let marks = (load-of g.N.Network.reading g.N.Undo.untouched c.show_earliest-tree.new.board c.mark-self.new.self (marked g k.After-mark-self).untouched_same).plans in
     can-lay g.N.Network.reading b c.args.machine.now c.args.self.now t c.in-Some.ask (asked g k.After-undo_to) _ (marks ∙ (shown g k.After-mark-self b t).loaded.plans ∙ sym t.loaded.plans) _
     (ap suffix_by (c.as_slice.ensures.value ∙ c.in-Ok.ensures) ∙ changes-suffix (board_in c.args.self.now))
+
+pub show_earliest-tree-requires-clause-unmarked : goal.show_earliest-tree-requires-clause-unmarked
+show_earliest-tree-requires-clause-unmarked g c =
+    let k = (goal.at.show_earliest-tree-requires-clause-unmarked g c).After-undo_to in
+    let t = c.requires.trial.1 in
+    (back g k c.requires.trial.0 t).same_past ∙ t.unmarked
+
+pub mark-self-requires : goal.mark-self-requires
+mark-self-requires g c =
+    let k = (goal.at.mark-self-requires g c).After-undo_to in
+    let b = c.requires.trial.0 in
+    let t = c.requires.trial.1 in
+    let shows = back-trans g.N.Network.reading b c.undo_to.new.self c.show_earliest-tree.new.board c.args.machine.now (back g k b t) c.show_earliest-tree.ensures.back in
+    let none = ap length (shows.same_past ∙ t.unmarked) in
+    let marks = c.boards_have_marks.ensures in
+    omega (arith, none, marks)
+
+pub returns-clause-rows : goal.returns-clause-rows
+returns-clause-rows g c =
+    let k = (goal.at.returns-clause-rows g c).After-undo_to in
+    and-some (board_in c.args.self.now).ask c.in-Some.ask _ (asked g k) c.show_earliest-tree.ensures.rows
 
 pub returns-clause-tree : goal.returns-clause-tree
 returns-clause-tree g c =

@@ -17,7 +17,7 @@ pub search_to-outcome-requires-clause-ready : goal.search_to-outcome-requires-cl
 search_to-outcome-requires-clause-ready g c = record { stands = c.requires.stands; asked = c.requires.asked; closed = ap suffix_after c.requires.closed }
 
 pub search_to-outcome-requires-clause-marks : goal.search_to-outcome-requires-clause-marks
-search_to-outcome-requires-clause-marks g c = omega (arith, c.requires.marks, ap length c.requires.unmarked)
+search_to-outcome-requires-clause-marks g c = omega (arith, c.boards_have_marks.ensures, ap length c.requires.unmarked)
 
 -- where the first search came to no end, the board is back
 back : (g : _) (c : In-Again g) → IsBack g.N.Network.reading c.args.board.now c.search_to-outcome.new.board c.args.machine.now
@@ -34,7 +34,7 @@ search_to-requires-clause-ready g c =
     (record { stands = c.requires.stands; asked = c.requires.asked; closed = ap suffix_after c.requires.closed })
 
 pub search_to-requires-clause-marks : goal.search_to-requires-clause-marks
-search_to-requires-clause-marks g c = (let b = back g (goal.at.search_to-requires-clause-marks g c).In-Again in omega (arith, c.requires.marks, ap length c.requires.unmarked, ap length b.same_past, b.marks))
+search_to-requires-clause-marks g c = (let b = back g (goal.at.search_to-requires-clause-marks g c).In-Again in omega (arith, c.boards_have_marks.ensures, ap length c.requires.unmarked, ap length b.same_past, b.marks))
 
 pub returns-in-Again-clause-outcome : goal.returns-in-Again-clause-outcome
 returns-in-Again-clause-outcome g c =
