@@ -15,6 +15,7 @@ use Rattle.tp_event_rules.specs.Loops.{is_loose}
 use Rattle.tp_event_rules.specs.Moments.{is_to_tray}
 use Rattle.tp_event_rules.specs.Seen.{HasNextCopy, HasStarted}
 use Rattle.tp_event_rules.specs.States.{SessionState}
+use Rattle.tp_outage_laws.specs.Through.{KeepsThrough}
 use Rattle.tp_replan.specs.Open.{CanFall}
 
 -- all actions of the plan have started, and the last one is running
@@ -67,6 +68,12 @@ pub record CanBeginLoop (machine : Machine) (s : SessionState) : Type 0 where
   pub next_planned : All (λ p. HasNextCopy p.sheet) s.plans
   pub few_plans : length s.plans ≤ most_live
   pub purges : All (HasStarted s.now) s.plans
+
+-- where the lost copies are told by the fronts before and after: what the loop needs, and what is kept of jobs, of broken jobs and of
+-- copies that are older than an open one
+pub record CanGoOut (machine : Machine) (s : SessionState) : Type 0 where
+  pub loop : CanBeginLoop machine s
+  pub through : KeepsThrough machine s
 
 -- the notes stay, and what else holds
 pub record Stays (notes notes' : List Record) (P : Type 0) : Type 0 where

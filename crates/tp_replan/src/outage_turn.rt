@@ -5,9 +5,10 @@ ghost use Rattle.tp_schedule.specs.PlannerAnswers.{StopsOnlyWhere};
 ghost use Rattle.tp_schedule.specs.Plans.{is_front};
 ghost use Rattle.tp_event_rules.specs.LiveStates.{seen};
 ghost use Rattle.tp_event_rules.specs.Planners.{right_steps};
-ghost use Rattle.tp_event_rules.specs.Ready.{CanTakeEvents, KeepsLive, last_copy};
+ghost use Rattle.tp_event_rules.specs.Ready.{CanTakeEvents, KeepsLive};
 ghost use Rattle.tp_event_rules.specs.Seen.{fronts_of, state_seen};
 ghost use Rattle.tp_replan.specs.Answered.{NotesOut, NotesStoppedOut};
+ghost use Rattle.tp_replan.specs.LooseLoop.{CanBeginLoop, CanGoOut};
 
 use crate::loose_loop::{run_loop, settle};
 use crate::module_out::take_out;
@@ -35,7 +36,7 @@ pub fn go_out<P: Planner>(
 ) -> Result<(), Halt>
     requires served { P.serves planner.old machine.now }
     requires there { event.module.0 < length machine.now.modules }
-    requires can { KeepsLive machine.now last_copy (seen state.old) }
+    requires can { CanBeginLoop machine.now (seen state.old) }
     ensures out { OnOk result
         (NotesOut (right_steps P.rules machine.now) machine.now event
         (seen state.old) planner.old notes.old.items
@@ -121,8 +122,7 @@ pub fn handle_out<P: Planner>(
 ) -> Result<(), Halt>
     requires served { P.serves planner.old machine.now }
     requires there { id.0 < length machine.now.modules }
-    requires can { KeepsLive machine.now last_copy
-        (state_seen now schedule.old.plans lines.old outs.old) }
+    requires can { CanGoOut machine.now (state_seen now schedule.old.plans lines.old outs.old) }
     ensures out { OnOk result
         (NotesOut (right_steps P.rules machine.now) machine.now
         (record { «module» = id; jammed = jammed })

@@ -4,11 +4,15 @@ use Rattle.std.proofs.lemmas.Result.{on_ok_weaker}
 use Rattle.tp_event_rules.specs.LiveStates.{seen}
 use Rattle.tp_event_rules.specs.Planners.{right_steps}
 use Rattle.tp_event_rules.specs.Ready.{last_copy}
+use Rattle.tp_replan.proofs.LoopStart.{begins-loop}
 use Rattle.tp_event_turn.proofs.ModuleEvents.{out-event, out-stop}
 use Rattle.tp_event_turn.proofs.module_turn.take_out.Goals as goal
 use Rattle.tp_stock.specs.Stock.{IsBounded}
 use Rattle.tp_event_rules.proofs.StockKept.{within-bounded}
 use Rattle.tp_event_rules.proofs.StockTurns.{refills-goes}
+
+pub go_out-requires-clause-can : goal.go_out-requires-clause-can
+go_out-requires-clause-can g c = begins-loop c.args.machine.now (seen c.args.state.now) c.requires.ready.can.kept
 
 pub ask_waiting-requires-clause-can : goal.ask_waiting-requires-clause-can
 ask_waiting-requires-clause-can g c = (c.in_ok-go_out.ensures.kept last_copy c.requires.ready.can.kept).kept

@@ -5,7 +5,6 @@ use Rattle.tp_event_rules.specs.LiveStates.{seen}
 use Rattle.tp_event_rules.specs.Outages.{outage}
 use Rattle.tp_event_rules.specs.Planners.{RunsLoop, StopsInLoop, right_steps}
 use Rattle.tp_replan.specs.LooseLoop.{CanLoop}
-use Rattle.tp_replan.proofs.LoopStart.{begins-loop}
 use Rattle.tp_replan.proofs.InLoop.{ends}
 use Rattle.tp_replan.proofs.OutStarts.{can-begin}
 use Rattle.tp_replan.proofs.StillOnWay.{loop-outage}
@@ -14,14 +13,14 @@ use Rattle.tp_replan.proofs.outage_turn.go_out.Goals as goal
 pub take_out-requires-clause-can : goal.take_out-requires-clause-can
 take_out-requires-clause-can g c =
     let s = seen c.args.state.now in
-    (can-begin c.args.machine.now s (begins-loop c.args.machine.now s c.requires.can)).fall
+    (can-begin c.args.machine.now s c.requires.can).fall
 
 pub run_loop-requires-clause-can : goal.run_loop-requires-clause-can
 run_loop-requires-clause-can g c =
     let m = c.args.machine.now in
     let s = seen c.args.state.now in
     subst (CanLoop m) (sym c.in-Ok.ensures.leads.state)
-    (loop-outage m c.args.event.module.0 c.args.event.jammed s (can-begin m s (begins-loop m s c.requires.can)))
+    (loop-outage m c.args.event.module.0 c.args.event.jammed s (can-begin m s c.requires.can))
 
 pub returns-in_err-run_loop-clause-stopped : goal.returns-in_err-run_loop-clause-stopped
 returns-in_err-run_loop-clause-stopped g c = λ e.
