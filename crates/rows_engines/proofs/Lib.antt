@@ -4,3 +4,4 @@ pub mod LaidWays
 pub mod SearchFacts
 pub mod ReasonFacts
 pub mod TrialFacts
+pub mod OutFacts

@@ -1,5 +1,5 @@
 -- A trial that is abandoned leaves its board ready.
-use Rattle.std.proofs.Common.{ℕ, List, ap, sym, subst, ◌∙◌, arith}
+use Rattle.std.proofs.Common.{List, ap, sym, subst, ◌∙◌}
 use Rattle.tp_base.specs.Readings.{Reading}
 use Rattle.tp_machine.specs.declared.machine.Machine.{Machine}
 use Rattle.tp_schedule.specs.declared.parts.Ask.{Ask}
@@ -18,5 +18,4 @@ module _ {N : Type 0} (reading : Reading N) where
     asked = back.loaded.ask ∙ ready.asked;
     closed = ap (λ (x : BoardContent). x.steps) back.same_content ∙ ready.closed;
     unmarked = back.same_past ∙ ready.unmarked;
-    marks = omega (arith, back.marks, ready.marks);
   }

@@ -1,5 +1,5 @@
 -- A board that was loaded for an ask, before the first search.
-use Rattle.std.specs.Prelude.{◌≡◌, ℕ, ◌≤◌, List, [], Some}
+use Rattle.std.specs.Prelude.{◌≡◌, List, [], Some}
 use Rattle.tp_base.specs.Readings.{Reading}
 use Rattle.tp_machine.specs.declared.machine.Machine.{Machine}
 use Rattle.tp_schedule.specs.declared.parts.Ask.{Ask}
@@ -8,11 +8,10 @@ use Rattle.tp_placing.specs.Boards.{BoardValue, past_of}
 use Rattle.tp_placing.specs.LoadedBoard.{Stands}
 use Rattle.tp_placing.specs.Commits.{IsHeldFrom}
 
--- the board holds the live ones of these plans for the ask, no goal is open and no mark in force, and a search has its marks
+-- the board holds the live ones of these plans for the ask, no goal is open and no mark in force
 pub record IsReady {N : Type 0} (reading : Reading N) (b : BoardValue N) (machine : Machine) (plans : List Plan) (ask : Ask) : Type 0 where
   pub held : IsHeldFrom machine plans ask b.plans
   pub stands : Stands reading b machine
   pub asked : b.ask ≡ Some ask
   pub closed : b.steps ≡ []
   pub unmarked : past_of reading b ≡ []
-  pub marks : 8 ≤ reading.max_marks b.net

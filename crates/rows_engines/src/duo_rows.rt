@@ -31,7 +31,6 @@ fn look_at_searches<N: Network>(
     machine: &Machine,
 ) -> Result<(), Fail>
     requires made { IsMadeFor board.old.made_for machine.now }
-    requires marks { 8 ≤ N.reading.max_marks board.old.net }
     ensures { OnOk result (IsMadeFor board.new.made_for machine.now) }
 {
     earliest_in_turn(rt, alloc, board, machine)?;

@@ -190,7 +190,6 @@ fn tried_twice<N: Network>(
 ) -> Result<(Tick, [Tick; 4]), Fail>
     requires work { IsFor work.old machine.now }
     requires made { IsMadeFor board.old.made_for machine.now }
-    requires marks { 8 ≤ N.reading.max_marks board.old.net }
     requires can_ask { CanAsk machine.now schedule.old.plans ask.now }
     requires spare { 0 < schedule.old.spare }
 {
@@ -209,7 +208,6 @@ fn first_on<N: Network>(
 ) -> Result<(Tick, [Tick; 4]), Fail>
     requires work { IsFor work.old machine.now }
     requires made { IsMadeFor board.old.made_for machine.now }
-    requires marks { 8 ≤ N.reading.max_marks board.old.net }
     requires empty { schedule.old.plans ≡ [] }
 {
     let ask = first_tray_ask(machine, 1, MONO)?;
@@ -226,7 +224,6 @@ fn first_tried<N: Network>(
     machine: &Machine,
 ) -> Result<(Tick, [Tick; 4]), Fail>
     requires made { IsMadeFor board.old.made_for machine.now }
-    requires marks { 8 ≤ N.reading.max_marks board.old.net }
 {
     let mut work = work_for(alloc, machine, 1000)?;
     let mut schedule = Schedule::new(alloc);

@@ -4,6 +4,8 @@
 #[cfg(test)]
 mod board_rows;
 #[cfg(test)]
+mod board_times_rows;
+#[cfg(test)]
 mod both_networks_rows;
 #[cfg(test)]
 mod by_hand;
@@ -25,6 +27,8 @@ mod named_reasons;
 mod network_probes;
 #[cfg(test)]
 mod network_rows;
+#[cfg(test)]
+mod outage_rows;
 #[cfg(test)]
 mod planned_rows;
 #[cfg(test)]

@@ -51,13 +51,11 @@ fn answer_new<N: Network>(
 ) -> Result<Reply, Fail>
     requires work { IsFor work.old machine.now }
     requires made { IsMadeFor board.old.made_for machine.now }
-    requires marks { 8 ≤ N.reading.max_marks board.old.net }
     requires plan_on { CanPlanOn machine.now ask.now.now schedule.old.plans }
     requires new { ask.now.origin ≡ Feeder }
     requires goal { IsOpenGoal machine.now [] ask.now ask.now.goal }
     ensures work { IsFor work.new machine.now }
     ensures made { IsMadeFor board.new.made_for machine.now }
-    ensures marks { 8 ≤ N.reading.max_marks board.new.net }
     ensures plan_on { OnOk result (CanPlanOn machine.now ask.entry.now.now schedule.new.plans) }
 {
     if !is_askable(machine, schedule, ask) {
@@ -81,11 +79,9 @@ fn answer_sheet<N: Network>(
 ) -> Result<Reply, Fail>
     requires work { IsFor work.old machine.now }
     requires made { IsMadeFor board.old.made_for machine.now }
-    requires marks { 8 ≤ N.reading.max_marks board.old.net }
     requires plan_on { CanPlanOn machine.now 0 schedule.old.plans }
     ensures work { IsFor work.new machine.now }
     ensures made { IsMadeFor board.new.made_for machine.now }
-    ensures marks { 8 ≤ N.reading.max_marks board.new.net }
     ensures plan_on { OnOk result (CanPlanOn machine.now 0 schedule.new.plans) }
 {
     let ask = ask_without(machine, number, outs)?;
@@ -101,10 +97,8 @@ fn answer_with<N: Network>(
     asked: (u32, u32, Outs),
 ) -> Result<Reply, Fail>
     requires made { IsMadeFor board.old.made_for machine.now }
-    requires marks { 8 ≤ N.reading.max_marks board.old.net }
     requires plan_on { CanPlanOn machine.now 0 schedule.old.plans }
     ensures made { IsMadeFor board.new.made_for machine.now }
-    ensures marks { 8 ≤ N.reading.max_marks board.new.net }
     ensures plan_on { OnOk result (CanPlanOn machine.now 0 schedule.new.plans) }
 {
     let (number, nodes, outs) = asked;
@@ -123,9 +117,7 @@ fn first_answered<N: Network>(
     outs: Outs,
 ) -> Result<(Reply, Schedule), Fail>
     requires made { IsMadeFor board.old.made_for machine.now }
-    requires marks { 8 ≤ N.reading.max_marks board.old.net }
     ensures made { IsMadeFor board.new.made_for machine.now }
-    ensures marks { 8 ≤ N.reading.max_marks board.new.net }
     ensures plan_on { IfOk result (λ answered. CanPlanOn machine.now 0 answered.1.plans) }
 {
     let mut schedule = Schedule::new(alloc);
@@ -146,10 +138,8 @@ fn points_with_second<N: Network>(
     schedule: &mut Schedule,
 ) -> Result<(Reply, [[Tick; 4]; 3]), Fail>
     requires made { IsMadeFor board.old.made_for machine.now }
-    requires marks { 8 ≤ N.reading.max_marks board.old.net }
     requires plan_on { CanPlanOn machine.now 0 schedule.old.plans }
     ensures made { IsMadeFor board.new.made_for machine.now }
-    ensures marks { 8 ≤ N.reading.max_marks board.new.net }
 {
     let alone = points_of(schedule, 1, 0)?;
     let reply = answer_with(alloc, board, machine, schedule, (2, 1000, Outs(0)))?;
@@ -168,9 +158,7 @@ fn points_in_turn<N: Network>(
     machine: &Machine,
 ) -> Result<([Reply; 2], [[Tick; 4]; 3]), Fail>
     requires made { IsMadeFor board.old.made_for machine.now }
-    requires marks { 8 ≤ N.reading.max_marks board.old.net }
     ensures made { IsMadeFor board.new.made_for machine.now }
-    ensures marks { 8 ≤ N.reading.max_marks board.new.net }
 {
     let (one, mut schedule) = first_answered(alloc, board, machine, 1000, Outs(0))?;
     let told = points_with_second(alloc, board, machine, &mut schedule);
@@ -197,9 +185,7 @@ fn first_end<N: Network>(
     outs: Outs,
 ) -> Result<(Reply, Option<Tick>), Fail>
     requires made { IsMadeFor board.old.made_for machine.now }
-    requires marks { 8 ≤ N.reading.max_marks board.old.net }
     ensures made { IsMadeFor board.new.made_for machine.now }
-    ensures marks { 8 ≤ N.reading.max_marks board.new.net }
 {
     let (reply, schedule) = first_answered(alloc, board, machine, nodes, outs)?;
     let end = end_of(&schedule);
@@ -215,9 +201,7 @@ fn second_reply<N: Network>(
     nodes: u32,
 ) -> Result<Reply, Fail>
     requires made { IsMadeFor board.old.made_for machine.now }
-    requires marks { 8 ≤ N.reading.max_marks board.old.net }
     ensures made { IsMadeFor board.new.made_for machine.now }
-    ensures marks { 8 ≤ N.reading.max_marks board.new.net }
 {
     let (_, mut schedule) = first_answered(alloc, board, machine, 1000, Outs(0))?;
     let reply = answer_with(alloc, board, machine, &mut schedule, (2, nodes, Outs(0)));
@@ -234,9 +218,7 @@ pub(crate) fn earliest_in_turn<N: Network>(
     machine: &Machine,
 ) -> Result<(), Fail>
     requires made { IsMadeFor board.old.made_for machine.now }
-    requires marks { 8 ≤ N.reading.max_marks board.old.net }
     ensures made { IsMadeFor board.new.made_for machine.now }
-    ensures marks { 8 ≤ N.reading.max_marks board.new.net }
 {
     let told = points_in_turn(alloc, board, machine)?;
     let points = [[3, 5, 11, 14], [5, 7, 13, 16], [3, 5, 14, 17]];
@@ -252,9 +234,7 @@ pub(crate) fn modules_out<N: Network>(
     machine: &Machine,
 ) -> Result<(), Fail>
     requires made { IsMadeFor board.old.made_for machine.now }
-    requires marks { 8 ≤ N.reading.max_marks board.old.net }
     ensures made { IsMadeFor board.new.made_for machine.now }
-    ensures marks { 8 ≤ N.reading.max_marks board.new.net }
 {
     let rows = [
         (0b00001, Reply::Never, None),
@@ -282,9 +262,7 @@ pub(crate) fn nodes_for_the_first<N: Network>(
     machine: &Machine,
 ) -> Result<(), Fail>
     requires made { IsMadeFor board.old.made_for machine.now }
-    requires marks { 8 ≤ N.reading.max_marks board.old.net }
     ensures made { IsMadeFor board.new.made_for machine.now }
-    ensures marks { 8 ≤ N.reading.max_marks board.new.net }
 {
     let rows = [
         (0, Reply::Spent { bound: 14 }, None),
@@ -310,9 +288,7 @@ pub(crate) fn nodes_for_the_second<N: Network>(
     machine: &Machine,
 ) -> Result<(), Fail>
     requires made { IsMadeFor board.old.made_for machine.now }
-    requires marks { 8 ≤ N.reading.max_marks board.old.net }
     ensures made { IsMadeFor board.new.made_for machine.now }
-    ensures marks { 8 ≤ N.reading.max_marks board.new.net }
 {
     let spent = Reply::Spent { bound: 15 };
     let rows = [

@@ -1,5 +1,4 @@
 -- The board was loaded afresh, and a trial that is abandoned leaves it ready.
-use Rattle.std.proofs.Common.{arith}
 use Rattle.tp_search.proofs.HeldFacts.{live-held}
 use Rattle.rows_engines.specs.ReadyBoard.{IsReady}
 use Rattle.rows_engines.proofs.engine_rows.tried_twice.Goals as goal
@@ -12,7 +11,6 @@ begun g c = record {
   asked = c.load.ensures.asked;
   closed = c.load.ensures.closed;
   unmarked = c.load.ensures.past;
-  marks = omega (arith, c.load.ensures.marks, c.requires.marks);
 }
 
 pub tried_end-requires-clause-ready : goal.tried_end-requires-clause-ready
