@@ -8,7 +8,8 @@ use Rattle.tp_bounds.specs.declared.tree.Node.{Node}
 use Rattle.tp_machine.specs.declared.machine.Machine.{Machine}
 use Rattle.tp_schedule.specs.declared.parts.Ask.{Ask}
 use Rattle.tp_schedule.specs.declared.parts.Plan.{Plan}
-use Rattle.tp_bound_laws.specs.Claims.{IsTreeFor}
+use Rattle.tp_bound_laws.specs.Claims.{IsTreeFor, limit_of, live_part}
+use Rattle.tp_bound_laws.specs.Once.{IsSimple}
 use Rattle.tp_bound_laws.specs.declared.claim.Claim.{Claim}
 
 -- the most hops of a node: more than 256 live plans of 64 actions and the asked copy have points
@@ -31,9 +32,9 @@ IsOfFewHops n = hops_in n.close ≤ most_hops
 abbrev pub HasFewHops : BoundTree → Type 0
 HasFewHops tree = All IsOfFewHops tree.nodes
 
--- the tree is one for the claim on the live part, and has few hops
+-- the tree is one for the claim on the live part, has few hops, and no chain or loop passes a point twice
 abbrev pub IsShortTreeFor : Machine → List Plan → Ask → Claim → BoundTree → Type 0
-IsShortTreeFor machine plans ask claim tree = IsTreeFor machine plans ask claim tree × HasFewHops tree
+IsShortTreeFor machine plans ask claim tree = IsTreeFor machine plans ask claim tree × HasFewHops tree × IsSimple machine (live_part machine ask plans) ask (limit_of machine ask claim) tree
 
 -- where hops are few, no line is longer
 abbrev pub FewHopsMakeShortLines : Type 0

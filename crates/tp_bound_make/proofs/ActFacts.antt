@@ -106,7 +106,7 @@ module _ (machine : Machine) (plans : List Plan) (ask : Ask) (sums : List (Optio
       let none = has s known ∙ at in
       subst (λ ds. Adds machine plans ask rows (pos limit) ds old new []) (sym (due-by machine plans ask rows r x act (Some s) is))
       (adds-node machine plans ask rows (pos limit) (action (branch_by r x) act s) n old new []
-      (node-look machine plans ask rows (pos limit) (action (branch_by r x) act s) n (branch_by (opened_below r act s) (with_action act 0 x)) [] (act-stands machine plans ask rows r x act s name 0 (named rows) (ap or_zero none)) refl (ap (dead_look true) none)) put (omega arith))
+      (node-look machine plans ask rows (pos limit) (action (branch_by r x) act s) n (branch_by (opened_below r act s) (with_action act 0 x)) [] (act-stands machine plans ask rows r x act s name 0 (named rows) (ap or_zero none)) refl (ap (dead_look true) none)) put (omega arith) (λ t is. tt))
 
 pub skipped-shows : (machine : Machine) (plans : List Plan) (ask : Ask) (sums : List (Option ℕ)) (limit : ℕ) (old : List Node) (r : ShowBranch) (x : Suffix) (act : ActId)
     → None ≡ cond (is_act_allowed machine ask.outs act) (state_before ask.want r.first (action_at machine act.0)) None → Shows machine plans ask sums limit old old (λ rows. action_due machine plans ask rows (branch_by r x) act) (λ _. [])

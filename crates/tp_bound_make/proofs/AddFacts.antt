@@ -9,18 +9,26 @@ use Rattle.tp_bounds.specs.declared.tree.TreeRow.{TreeRow}
 use Rattle.tp_machine.specs.declared.machine.Machine.{Machine}
 use Rattle.tp_schedule.specs.declared.parts.Ask.{Ask}
 use Rattle.tp_schedule.specs.declared.parts.Plan.{Plan}
-use Rattle.tp_bound_laws.specs.Places.{Branch, Due, due_behind, stand_of}
+use Rattle.tp_bound_laws.specs.Once.{PassOnce, PassesOnce}
+use Rattle.tp_bound_laws.specs.Places.{Branch, Due, Stand, due_behind, stand_of}
 use Rattle.tp_bound_laws.specs.Short.{IsOfFewHops, hops_in, most_hops}
 use Rattle.tp_bound_laws.specs.Trees.{close_look, look, stand_look, with_behind}
 use Rattle.tp_bound_laws.specs.Trees.Look.{due}
 use Rattle.tp_bound_laws.proofs.Lists.{number-same}
 use Rattle.tp_bound_make.specs.TreeProgress.{Adds, CoversBriefly, LeadsTo, PutsNode}
 
+due-is : (xs ys : List Due) → due xs ≡ due ys → xs ≡ ys
+due-is xs ys e = cc
+
+stand-is : (s t : Stand) → Some s ≡ Some t → s ≡ t
+stand-is s t e = cc
+
 module _ (machine : Machine) (plans : List Plan) (ask : Ask) (rows : List TreeRow) (limit : ℤ) where
-  pub adds-node : (d : Due) (n : Node) (old new : List Node) (more : List Due) → look machine plans ask rows limit d n ≡ due more → new ≡ old ++ n ∷ [] → IsOfFewHops n → Adds machine plans ask rows limit (d ∷ []) old new more
+  pub adds-node : (d : Due) (n : Node) (old new : List Node) (more : List Due) → look machine plans ask rows limit d n ≡ due more → new ≡ old ++ n ∷ [] → IsOfFewHops n
+      → ((s : Stand) → stand_of machine plans ask rows d n.head ≡ Some s → PassesOnce machine plans ask limit s n.close) → Adds machine plans ask rows limit (d ∷ []) old new more
   unfolding CoversBriefly
-  adds-node d n old new more looks put few start rest lead tail covers =
-      subst (CoversBriefly machine plans ask rows limit start) (sym (ap (λ ns. ns ++ tail) put ∙ append_assoc old (n ∷ []) tail)) (lead (n ∷ tail) ((more, looks, covers.0), All-cons IsOfFewHops n tail few covers.1))
+  adds-node d n old new more looks put few once start rest lead tail covers =
+      subst (CoversBriefly machine plans ask rows limit start) (sym (ap (λ ns. ns ++ tail) put ∙ append_assoc old (n ∷ []) tail)) (lead (n ∷ tail) ((more, looks, covers.0), All-cons IsOfFewHops n tail few covers.1, (once, λ other is. subst (λ ds. PassOnce machine plans ask rows limit (ds ++ rest) tail) (due-is more other (sym looks ∙ is)) covers.2)))
 
   pub adds-trans : (a b c : List Due) (one two three : List Node) → Adds machine plans ask rows limit a one two b → Adds machine plans ask rows limit b two three c → Adds machine plans ask rows limit a one three c
   adds-trans a b c one two three f g start rest lead = g start rest (f start rest lead)
@@ -38,7 +46,8 @@ module _ (machine : Machine) (plans : List Plan) (ask : Ask) (rows : List TreeRo
 
 -- such a node is put
 pub puts : (machine : Machine) (plans : List Plan) (ask : Ask) (limit depth : ℕ) (old new : List Node) (b : Branch) (head : Head) (close : Close) (more : List TreeRow → List Due) → new ≡ old ++ record { depth = depth; head = head; close = close } ∷ [] → b.depth ≡ depth
-    → hops_in close ≤ most_hops → ((rows : List TreeRow) → close_look machine plans ask rows (pos limit) (record { branch = b; span = None }) head close ≡ due (more rows)) → PutsNode machine plans ask limit old new b head more
-puts machine plans ask limit depth old new b head close more put same few closes rows d stands =
+    → hops_in close ≤ most_hops → PassesOnce machine plans ask (pos limit) (record { branch = b; span = None }) close → ((rows : List TreeRow) → close_look machine plans ask rows (pos limit) (record { branch = b; span = None }) head close ≡ due (more rows)) → PutsNode machine plans ask limit old new b head more
+puts machine plans ask limit depth old new b head close more put same few once closes rows d stands =
     let n : Node = record { depth = depth; head = head; close = close } in
     adds-node machine plans ask rows (pos limit) d n old new (more rows ++ due_behind machine plans ask rows d head) (node-look machine plans ask rows (pos limit) d n b (more rows) stands (sym same) (closes rows)) put few
+    (λ s is. subst (λ t. PassesOnce machine plans ask (pos limit) t close) (stand-is (record { branch = b; span = None }) s (sym stands ∙ is)) once)

@@ -28,15 +28,16 @@ use Rattle.tp_placing.specs.declared.causes.EdgeCause.TheVariants.{Limit}
 use Rattle.tp_placing.proofs.StandFacts.{some-and}
 use Rattle.tp_placing.proofs.TableFacts.{length-table}
 use Rattle.tp_bound_laws.specs.Places.{Branch}
+use Rattle.tp_bound_laws.specs.Once.{PassesOnce}
 use Rattle.tp_bound_laws.specs.Short.{most_hops}
 use Rattle.tp_bound_laws.specs.Trees.{close_look}
 use Rattle.tp_bound_laws.specs.Trees.Look.{due}
 use Rattle.tp_bound_make.specs.Closes.{ClosesEnd, ClosesRefused, ClosesStop, IsEndRefused, IsLimit, IsRefused}
 use Rattle.tp_bound_make.specs.TellableReasons.{CanTell, IsTellable, IsTellableReason, IsToldReason}
-use Rattle.tp_bound_make.proofs.EndCloses.{end-closes}
+use Rattle.tp_bound_make.proofs.EndCloses.{end-once, end-closes}
 use Rattle.tp_bound_make.proofs.HopFacts.{before-limit, own-named, tellable}
-use Rattle.tp_bound_make.proofs.LateCloses.{IsSetting, late-closes}
-use Rattle.tp_bound_make.proofs.StopCloses.{stop-closes}
+use Rattle.tp_bound_make.proofs.LateCloses.{late-once, IsSetting, late-closes}
+use Rattle.tp_bound_make.proofs.StopCloses.{stop-once, stop-closes}
 use Rattle.tp_bound_make.proofs.TellFacts.{get-within}
 
 few-kept : (kept steps : ℕ) (o : Option Suffix) → AreFewSteps kept o steps → kept ≤ 64
@@ -97,6 +98,10 @@ module _ {N : Type 0} (reading : Reading N) (refutes : N → Net → Type 0) (ma
         let r : IsRefused refutes machine b br.x = subst (IsRefused refutes machine b) (sym same) refused in
         let q : IsReason refutes b machine ask br.x = subst (λ o. IsSomeAnd o (λ a. IsReason refutes b machine a br.x)) asked r.shown in
         late-closes machine b.plans ask rows lim br b.causes q.net q.shown.late b.limit told.proof close head (setting ask br lim rows by) r.going q.no_limit q.is_net q.hops q.shown.part (told.refuted q.shown.late q.shown.shown) told.tells),
+    λ br same. (
+        let r : IsRefused refutes machine b br.x = subst (IsRefused refutes machine b) (sym same) refused in
+        let q : IsReason refutes b machine ask br.x = subst (λ o. IsSomeAnd o (λ a. IsReason refutes b machine a br.x)) asked r.shown in
+        late-once machine b.plans ask [] lim br b.causes q.net q.shown.late b.limit told.proof close (setting ask br lim [] by) r.going q.no_limit q.is_net q.hops q.shown.part (told.refuted q.shown.late q.shown.shown) told.tells),
   )
 
   -- ---- an end
@@ -128,6 +133,10 @@ module _ {N : Type 0} (reading : Reading N) (refutes : N → Net → Type 0) (ma
         let r : IsEndRefused refutes machine b br.x last = subst (λ y. IsEndRefused refutes machine b y last) (sym same) refused in
         let q : IsEndReason refutes b machine ask br.x last = subst (λ o. IsSomeAnd o (λ a. IsEndReason refutes b machine a br.x last)) asked r.shown in
         end-closes machine b.plans ask rows br b.causes last q.net q.end (setting ask br (pos last) rows by) r.going q.limit_cause q.is_net q.hops q.is_end q.shown.late q.shown.part b.limit told.proof close head q.limit (told.refuted q.shown.late q.shown.shown) told.tells),
+    λ br same. (
+        let r : IsEndRefused refutes machine b br.x last = subst (λ y. IsEndRefused refutes machine b y last) (sym same) refused in
+        let q : IsEndReason refutes b machine ask br.x last = subst (λ o. IsSomeAnd o (λ a. IsEndReason refutes b machine a br.x last)) asked r.shown in
+        end-once machine b.plans ask [] br b.causes last q.net q.end (setting ask br (pos last) [] by) r.going q.limit_cause q.is_net q.hops q.is_end q.shown.late q.shown.part b.limit told.proof close q.limit (told.refuted q.shown.late q.shown.shown) told.tells),
   )
 
   -- ---- a stop
@@ -156,5 +165,13 @@ module _ {N : Type 0} (reading : Reading N) (refutes : N → Net → Type 0) (ma
         let set = setting ask (record { depth = br.depth; first = br.first; x = with_stop x }) lim rows by in
         subst (λ y. close_look machine b.plans ask rows lim (record { branch = record { depth = br.depth; first = br.first; x = y }; span = None }) head close ≡ due []) (sym same)
         (stop-closes machine b.plans ask rows lim br.depth br.first x b.causes q.net q.shown.late set (subst (IsAsked machine b.plans) mine on.origin) flying some ticks.ticks ticks.times q.is_net q.hops q.shown.part b.limit told.proof close head q.no_limit
+        (told.refuted q.shown.late q.shown.shown) told.tells)),
+    λ br same. (
+        let mine = same-ask ask asked in
+        let ticks : HasTicks ask x = subst (λ a. HasTicks a x) mine (times-of x refused.carried) in
+        let q : IsReason refutes b machine ask (with_stop x) = subst (λ o. IsSomeAnd o (λ a. IsReason refutes b machine a (with_stop x))) asked refused.shown in
+        let set = setting ask (record { depth = br.depth; first = br.first; x = with_stop x }) lim [] by in
+        subst (λ y. PassesOnce machine b.plans ask lim (record { branch = record { depth = br.depth; first = br.first; x = y }; span = None }) close) (sym same)
+        (stop-once machine b.plans ask [] lim br.depth br.first x b.causes q.net q.shown.late set (subst (IsAsked machine b.plans) mine on.origin) flying some ticks.ticks ticks.times q.is_net q.hops q.shown.part b.limit told.proof close q.no_limit
         (told.refuted q.shown.late q.shown.shown) told.tells)),
   )

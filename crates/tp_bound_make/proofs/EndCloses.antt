@@ -2,14 +2,14 @@
 use Rattle.std.proofs.Common.{◌≡◌, ◌⊎◌, inl, inr, ℕ, zero, suc, ◌<◌, ◌≤◌, false, List, [], ◌∷◌, ◌++◌, length, refl, sym, ◌∙◌, ap, subst, arith, All, Contains, Option, Some, None}
 use Rattle.std.specs.Prelude.{pos, ◌<ℤ◌, ◌+ℤ◌, slice_get, slice_index}
 use Rattle.std.proofs.lemmas.Int.{ints}
-use Rattle.std.proofs.lemmas.List.{length-append, length-map}
+use Rattle.std.proofs.lemmas.List.{append-nil, length-append, length-map}
 use Rattle.std.proofs.lemmas.List.Elements.{All-append, All-cons, All-nil, All-contains, All-head, All-tail}
 use Rattle.tp_base.specs.declared.edges.Edge.{Edge}
 use Rattle.tp_base.specs.declared.edges.PointId.{PointId}
 use Rattle.tp_base.specs.declared.edges.Proof.{Proof}
 use Rattle.tp_base.specs.declared.edges.Proof.TheVariants.{Chain, Circle}
 use Rattle.tp_base.specs.Net.{Net}
-use Rattle.tp_base.specs.Refute.{Leads, Refutes, total_weight}
+use Rattle.tp_base.specs.Refute.{AreApart, Leads, Refutes, ends_of, total_weight}
 use Rattle.tp_bounds.specs.declared.hops.TreePoint.{TreePoint}
 use Rattle.tp_bounds.specs.declared.tree.Close.{Close}
 use Rattle.tp_bounds.specs.declared.tree.Head.{Head}
@@ -31,12 +31,14 @@ use Rattle.tp_placing.specs.declared.causes.EdgeCause.TheVariants.{Limit}
 use Rattle.tp_placing.proofs.CauseFacts.{numbered-in}
 use Rattle.tp_bound_laws.specs.Chains.{low, spot_of}
 use Rattle.tp_bound_laws.specs.Chains.Led.{led}
+use Rattle.tp_bound_laws.specs.Once.{PassesOnce}
 use Rattle.tp_bound_laws.specs.Places.{Branch, Stand}
 use Rattle.tp_bound_laws.specs.Trees.{chain_look, close_look}
 use Rattle.tp_bound_laws.specs.Trees.Look.{due}
 use Rattle.tp_bound_laws.specs.Told.{told_by}
-use Rattle.tp_bound_make.specs.TellableReasons.{IsCloseOf, IsNameOf, IsTold, tell, told_until}
+use Rattle.tp_bound_make.specs.TellableReasons.{IsCloseOf, IsNameOf, IsTold, tell, told_then, told_until}
 use Rattle.tp_bound_make.proofs.FollowedEdges.{IsAllowed, IsCut, walked}
+use Rattle.tp_bound_make.proofs.OnceFacts.{AreEdges, apart-front, chain-passes, ends-append, loop-passes}
 use Rattle.tp_bound_make.proofs.HopFacts.{before-limit, named-allowed, named-told}
 use Rattle.tp_bound_make.proofs.LateCloses.{IsSetting, circle-first, cut-in, loop-whole, whole-closes}
 use Rattle.tp_bound_make.proofs.TellFacts.{get-within}
@@ -236,3 +238,51 @@ module _ (machine : Machine) (plans : List Plan) (ask : Ask) (rows : List TreeRo
                 let s = size in
                 let there = rest.1 in
                 absurd (omega (arith, s, there, below))
+
+      -- its hops pass no point twice
+      told-ends : (es : List Edge) → All Either es → All (IsTold (tell machine plans causes)) es → All (λ e. e.to.0 < points) es
+      told-ends es all told k d w = go _ (all k d w) (told k d w) where
+        go : (e : Edge) → Either e → IsTold (tell machine plans causes) e → e.to.0 < points
+        go e (inl h) t = h.1.1
+        go e (inr same) t = let no : tell machine plans causes e ≡ None = subst (λ q. tell machine plans causes q ≡ None) same limit-untold in let yes = t.1 in absurd cc
+
+      edges-of : (es : List Edge) (a z : ℕ) → All Either es → All (IsTold (tell machine plans causes)) es → Leads a es z → AreEdges machine plans ask (pos final) alone causes is.is_table.differ a z es
+      edges-of es a z all told leads = record { known = told-ends es all told; allowed = allowed-in es all; told = told; leads = leads }
+
+      no-circle : (edges : List Edge) (first : ℕ) → All Either edges → first < points → IsCut machine plans ask (pos final) alone causes first first edges → ⊥
+      no-circle edges first all below k =
+          let cut = is-limit k.edge (All-contains Either edges k.edge all (cut-in k.before k.behind edges k.edge k.parts)) k.untold in
+          let behind-all = All-tail Either k.edge k.behind (All-split Either k.before (k.edge ∷ k.behind) (subst (All Either) k.parts all)).1 in
+          let rest = rest-none k.behind first behind-all (subst (λ (e : Edge). Leads e.to.0 k.behind first) (sym cut) k.rest) in
+          let s = size in
+          let there = rest.1 in
+          absurd (omega (arith, s, there, below))
+
+      pub end-once : (last : Option PointId) (proof : Proof) (close : Close) → last ≡ Some (record { 0 = length net.lows }) → Refutes late proof → IsCloseOf machine plans causes last proof close → PassesOnce machine plans ask (pos final) alone close
+      end-once last (Chain first edges) close some r c =
+          let all = either-in edges.now r.in_net in
+          let below = first-known edges.now first.0 r.last all r.leads r.known r.passes in
+          let here = found last some first c.first below c.named in
+          subst (PassesOnce machine plans ask (pos final) alone) (sym c.is) (elim (walked machine plans ask (pos final) alone causes edges.now first.0 r.last (allowed-in edges.now all) r.leads) [
+            | inl w ↦ chain-passes machine plans ask (pos final) alone causes is.is_table.differ c.first first.0 r.last edges.now [] edges.now (sym (append-nil edges.now)) (edges-of edges.now first.0 r.last all w.all r.leads) refl r.apart below here
+            | inr k ↦
+                let parted = subst (All Either) k.parts all in
+                let front = (All-split Either k.before (k.edge ∷ k.behind) parted).0 in
+                let apart = subst AreApart (ap (λ ns. first.0 ∷ ns) (ap ends_of k.parts ∙ ends-append k.before (k.edge ∷ k.behind))) r.apart in
+                chain-passes machine plans ask (pos final) alone causes is.is_table.differ c.first first.0 k.edge.from.0 k.before (k.edge ∷ k.behind) edges.now k.parts (edges-of k.before first.0 k.edge.from.0 front k.all k.first)
+                (ap (λ o. told_then o (told_until (tell machine plans causes) k.behind)) k.untold) (apart-front (first.0 ∷ ends_of k.before) (ends_of (k.edge ∷ k.behind)) apart) below here
+          ])
+      end-once last (Circle edges) close some r c =
+          let all = either-in edges.now r.in_net in
+          let below = begins-known edges.now r.first r.first all r.positive r.leads in
+          elim c [
+            | inl l ↦
+                let begins = circle-first edges.now l.edge r.first l.there r.leads in
+                subst (PassesOnce machine plans ask (pos final) alone) (sym l.is)
+                (loop-passes machine plans ask (pos final) alone causes is.is_table.differ l.first r.first r.first edges.now (edges-of edges.now r.first r.first all l.all r.leads) r.apart
+                (subst (λ q. spot_of plans (length b.x.choices) l.first ≡ Some (numbered plans q)) begins (found last some l.edge.from l.first (subst (λ q. q < points) (sym begins) below) l.named)))
+            | inr m ↦ elim (walked machine plans ask (pos final) alone causes edges.now r.first r.first (allowed-in edges.now all) r.leads) [
+              | inl w ↦ let t = All-contains (IsTold (tell machine plans causes)) edges.now m.cut.edge w.all (contains-get edges.now m.at m.cut.edge m.cut.there) in let yes = t.1 in let no = m.cut.untold in absurd cc
+              | inr k ↦ absurd (no-circle edges.now r.first all below k)
+            ]
+          ]

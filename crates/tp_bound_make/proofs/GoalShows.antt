@@ -50,7 +50,7 @@ module _ (machine : Machine) (plans : List Plan) (ask : Ask) (sums : List (Optio
       let n : Node = record { depth = 0; head = GoalHead (named machine s); close = Dead } in
       let none = has s known ∙ at in
       adds-node machine plans ask rows (pos limit) (goal s) n old new []
-      (node-look machine plans ask rows (pos limit) (goal s) n (branch_by (goal_below s) (with_goal 0)) [] (goal-stands rows 0 (ap or_zero none)) refl (ap (dead_look true) none)) put (omega arith)
+      (node-look machine plans ask rows (pos limit) (goal s) n (branch_by (goal_below s) (with_goal 0)) [] (goal-stands rows 0 (ap or_zero none)) refl (ap (dead_look true) none)) put (omega arith) (λ t is. tt)
 
 module _ {N : Type 0} (reading : Reading N) (machine : Machine) (plans : List Plan) (ask : Ask) (sums : List (Option ℕ)) (limit : ℕ) (old new : List Node) where
   pub carries-goal : (b : BoardValue N) (s : State) (room : ℕ) → s.loc.0 < length machine.locations → IsGoalState machine ask.want ask.goal s → IsRoom machine ask s room → kept_of ask ≤ 64 → suffix_of b ≡ Some (with_goal room)

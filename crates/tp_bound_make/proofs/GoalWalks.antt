@@ -16,6 +16,7 @@ use Rattle.tp_placing.specs.Boards.{BoardValue, content_of, past_of, suffix_of}
 use Rattle.tp_placing.specs.Laws.{MarkKeeps}
 use Rattle.tp_bound_laws.specs.Places.Due.{goal}
 use Rattle.tp_bound_laws.specs.Places.{Due, goal_states}
+use Rattle.tp_bound_laws.specs.Once.{PassOnce}
 use Rattle.tp_bound_laws.specs.Short.{IsOfFewHops}
 use Rattle.tp_bound_laws.specs.Trees.{Covers, goals_due}
 use Rattle.tp_bound_make.specs.RoomRows.{HasRooms}
@@ -101,9 +102,10 @@ goals-last machine plans ask sums limit one two ss at past shows = subst (λ us.
 -- the nodes of all goals cover them
 pub covers-all : (machine : Machine) (plans : List Plan) (ask : Ask) (sums : List (Option ℕ)) (limit : ℕ) (start nodes : List Node) (ss : List State) (rows : List TreeRow) → HasRooms machine sums rows → start ≡ [] → ss ≡ goal_states machine ask.want ask.goal
     → Shows machine plans ask sums limit start nodes (λ _. goals_by ss) (λ _. []) → Covers machine plans ask rows (pos limit) (goals_due machine plans ask rows (pos limit)) nodes × All IsOfFewHops nodes
+    × PassOnce machine plans ask rows (pos limit) (goals_due machine plans ask rows (pos limit)) nodes
 unfolding CoversBriefly
 covers-all machine plans ask sums limit start nodes ss rows has none are shows =
     let goals = goals_due machine plans ask rows (pos limit) in
     let adds = subst (λ (us : List State). Adds machine plans ask rows (pos limit) (goals_by us) [] nodes []) are (subst (λ ns. Adds machine plans ask rows (pos limit) (goals_by ss) ns nodes []) none (shows rows has)) in
     let at_first : LeadsTo machine plans ask rows (pos limit) goals [] (goals ++ []) = λ tail covers. subst (λ ds. CoversBriefly machine plans ask rows (pos limit) ds tail) (append-nil goals) covers in
-    subst (CoversBriefly machine plans ask rows (pos limit) goals) (append-nil nodes) (adds goals [] at_first [] (tt, All-nil IsOfFewHops))
+    subst (CoversBriefly machine plans ask rows (pos limit) goals) (append-nil nodes) (adds goals [] at_first [] (tt, All-nil IsOfFewHops, tt))

@@ -2,6 +2,7 @@
 use Rattle.std.proofs.Common.{◌≡◌, inl, inr, ℕ, suc, ◌+◌, ◌<◌, false, List, [], ◌∷◌, ◌++◌, length, map, refl, sym, ◌∙◌, ap, subst, arith, All, Contains, Option, Some, None}
 use Rattle.std.specs.Prelude.{ℤ, pos, ◌≤ℤ◌, ◌<ℤ◌, ◌+ℤ◌, slice_get, slice_index}
 use Rattle.std.proofs.lemmas.Int.{ints}
+use Rattle.std.proofs.lemmas.List.{append-nil}
 use Rattle.std.proofs.lemmas.List.Elements.{All-contains}
 use Rattle.tp_base.specs.declared.edges.Edge.{Edge}
 use Rattle.tp_base.specs.declared.edges.PointId.{PointId}
@@ -28,11 +29,13 @@ use Rattle.tp_placing.specs.Reasons.{IsPart}
 use Rattle.tp_placing.specs.LoadedBoard.{table_with}
 use Rattle.tp_placing.specs.declared.causes.EdgeCause.{EdgeCause}
 use Rattle.tp_bound_laws.specs.Chains.{low, spot_of}
+use Rattle.tp_bound_laws.specs.Once.{PassesOnce}
 use Rattle.tp_bound_laws.specs.Places.{Branch, Stand}
 use Rattle.tp_bound_laws.specs.Trees.{chain_look, close_look, loop_look}
 use Rattle.tp_bound_laws.specs.Trees.Look.{due}
-use Rattle.tp_bound_make.specs.TellableReasons.{IsCloseOf, IsNameOf, tell, told_until}
+use Rattle.tp_bound_make.specs.TellableReasons.{IsCloseOf, IsNameOf, IsTold, tell, told_until}
 use Rattle.tp_bound_make.proofs.FollowedEdges.{IsAllowed, IsWhole, walked}
+use Rattle.tp_bound_make.proofs.OnceFacts.{AreEdges, chain-passes, loop-passes}
 use Rattle.tp_bound_make.proofs.HopFacts.{named-allowed, named-told, own-named}
 use Rattle.tp_bound_make.proofs.NetFrames.{IsFrame, chain-closes, loop-closes, name-found, net-frame, table-length}
 
@@ -128,4 +131,47 @@ module _ (machine : Machine) (plans : List Plan) (ask : Ask) (rows : List TreeRo
                 | inr k ↦ absurd (told-in edges.now k.edge all (cut-in k.before k.behind edges.now k.edge k.parts) k.untold)
               ]
           | inr k ↦ absurd (told-in edges.now k.cut.edge all (contains-get edges.now k.at k.cut.edge k.cut.there) k.cut.untold)
+        ]
+
+  -- its hops pass no point twice
+  pub late-once : (net late : Net) (last : Option PointId) (proof : Proof) (close : Close) → IsSetting → b.x.stopped ≡ false → last ≡ None
+      → IsBoardNet machine plans ask b.x (table_with plans (suc (length b.x.choices))) net → All (IsNamedHop machine plans ask b.x causes) net.edges → IsPart late net
+      → Refutes late proof → IsCloseOf machine plans causes last proof close → PassesOnce machine plans ask limit alone close
+  late-once net late last proof close set going none is hops part = of proof where
+    frame : IsFrame machine plans ask rows limit alone late (length (table_with plans (suc (length b.x.choices))))
+    frame = net-frame machine plans ask rows limit alone net late is part set.by (λ u. absurd cc)
+
+    size : length late.lows ≡ length (table_with plans (suc (length b.x.choices)))
+    size = part.points ∙ table-length machine plans ask rows limit alone net is
+
+    edges-in : (edges : List Edge) (a z : ℕ) → All (Contains late.edges) edges → Leads a edges z → AreEdges machine plans ask limit alone causes is.is_table.differ a z edges
+    edges-in edges a z in' leads =
+        let inside = all-by (Contains net.edges) edges late.edges in' part.edges in
+        let all = all-by (IsNamedHop machine plans ask b.x causes) edges net.edges inside hops in
+        record {
+          known = λ k d w. (all-by (IsEdgeOf (table_with plans (suc (length b.x.choices)))) edges net.edges inside is.edges k d w).1;
+          allowed = λ k d w. named-allowed machine plans ask b causes limit set.legal set.named set.differ _ (all k d w);
+          told = λ k d w. named-told machine plans ask b causes set.legal set.named going _ (all k d w);
+          leads = leads;
+        }
+
+    found : (point : PointId) (name : TreePoint) → point.0 < length (table_with plans (suc (length b.x.choices))) → IsNameOf plans last point name → spot_of plans (length b.x.choices) name ≡ Some (numbered plans point.0)
+    found point name below told = name-found machine plans ask rows limit alone set.legal.in_order set.named last point name (frame.known point.0 below) (own-named machine plans ask last point none) told
+
+    of : (proof : Proof) → Refutes late proof → IsCloseOf machine plans causes last proof close → PassesOnce machine plans ask limit alone close
+    of (Chain first edges) r c =
+        let a = r.known in
+        let n = size in
+        subst (PassesOnce machine plans ask limit alone) (sym c.is)
+        (chain-passes machine plans ask limit alone causes is.is_table.differ c.first first.0 r.last edges.now [] edges.now (sym (append-nil edges.now)) (edges-in edges.now first.0 r.last r.in_net r.leads) refl r.apart (omega arith) (found first c.first (omega arith) c.named))
+    of (Circle edges) r c =
+        let known = edges-in edges.now r.first r.first r.in_net r.leads in
+        elim c [
+          | inl l ↦
+              let begins = circle-first edges.now l.edge r.first l.there r.leads in
+              let below = (all-by (IsEdgeOf (table_with plans (suc (length b.x.choices)))) edges.now net.edges (all-by (Contains net.edges) edges.now late.edges r.in_net part.edges) is.edges) in
+              let from = (All-contains (IsEdgeOf (table_with plans (suc (length b.x.choices)))) edges.now l.edge below (contains-get edges.now 0 l.edge l.there)).0 in
+              subst (PassesOnce machine plans ask limit alone) (sym l.is)
+              (loop-passes machine plans ask limit alone causes is.is_table.differ l.first r.first r.first edges.now known r.apart (subst (λ q. spot_of plans (length b.x.choices) l.first ≡ Some (numbered plans q)) begins (found l.edge.from l.first from l.named)))
+          | inr k ↦ let t = All-contains (IsTold (tell machine plans causes)) edges.now k.cut.edge known.told (contains-get edges.now k.at k.cut.edge k.cut.there) in let yes = t.1 in let no = k.cut.untold in absurd cc
         ]

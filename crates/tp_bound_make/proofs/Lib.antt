@@ -1,6 +1,7 @@
 pub mod NameFacts
 pub mod TellFacts
 pub mod FollowedEdges
+pub mod OnceFacts
 pub mod NetFrames
 pub mod HopFacts
 pub mod LateCloses

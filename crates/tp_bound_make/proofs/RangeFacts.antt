@@ -14,6 +14,7 @@ use Rattle.tp_schedule.specs.declared.parts.Plan.{Plan}
 use Rattle.tp_constraints.specs.Suffixes.{Suffix, order_in}
 use Rattle.tp_placing.specs.Boards.{BoardValue}
 use Rattle.tp_placing.specs.Laws.{MarkKeeps}
+use Rattle.tp_bound_laws.specs.Once.{PassesOnce}
 use Rattle.tp_bound_laws.specs.Places as places
 use Rattle.tp_bound_laws.specs.Places.Due.{places as places_due}
 use Rattle.tp_bound_laws.specs.Places.{Stand, alone, at_places, due_behind, is_name_of_resource, place_branch, places_from, stand_of}
@@ -56,6 +57,9 @@ module _ (machine : Machine) (plans : List Plan) (ask : Ask) (rows : List TreeRo
   range-depth true = refl
   range-depth false = refl
 
+stand-is : (s t : Stand) → Some s ≡ Some t → s ≡ t
+stand-is s t e = cc
+
 -- the node of several places
 pub range-shows : (machine : Machine) (plans : List Plan) (ask : Ask) (sums : List (Option ℕ)) (limit : ℕ) (old new : List Node) (r : ShowBranch) (x : Suffix) (rule : HoldRule) (lo hi : ℕ) (name : List ℕ) (close : Close)
     → ((rows : List TreeRow) → is_name_of_resource machine plans ask rows name (slice_get machine.resources rule.resource.0) ≡ true) → lo ≤ hi → hi ≤ length (order_in machine plans x rule.resource.0)
@@ -70,7 +74,7 @@ range-shows machine plans ask sums limit old new r x rule lo hi name close named
     let t : (r.depth + 1 == s.branch.depth) ≡ true = ap (λ k. r.depth + 1 == k) deep ∙ number-same (r.depth + 1) in
     let closed = ap (with_behind machine plans ask rows (pos limit) (due_behind machine plans ask rows d (AtHead name lo hi))) (closes.1 rows br (AtHead name lo hi) refl) in
     let looks : look machine plans ask rows (pos limit) d n ≡ due (places_from machine plans ask rows br rule (suc hi)) = ap (stand_look machine plans ask rows (pos limit) d n) (range-stands machine plans ask rows r x rule lo hi name (named rows) below within) ∙ rw t closed in
-    let adds = adds-node machine plans ask rows (pos limit) d n old new (places_from machine plans ask rows br rule (suc hi)) looks put closes.0 in
+    let adds = adds-node machine plans ask rows (pos limit) d n old new (places_from machine plans ask rows br rule (suc hi)) looks put closes.0 (λ t is. subst (λ q. PassesOnce machine plans ask (pos limit) q close) (stand-is s t (sym (range-stands machine plans ask rows r x rule lo hi name (named rows) below within) ∙ is)) (closes.2 rows br refl)) in
     let next : places_from machine plans ask rows br rule (suc hi) ≡ places_from machine plans ask rows br rule (hi + 1) = ap (places_from machine plans ask rows br rule) (sym (add-one hi)) in
     let here : lo ≤ length (order_in machine plans x rule.resource.0) = omega arith in
     subst (λ ds. Adds machine plans ask rows (pos limit) ds old new (places_from machine plans ask rows br rule (hi + 1))) (sym (places-due machine plans ask rows br rule lo here))

@@ -32,6 +32,7 @@ use Rattle.tp_constraints.proofs.PointNumbers.{same_spot-is}
 use Rattle.tp_constraints.proofs.PlaceGaps.{put_places-push}
 use Rattle.tp_bound_laws.specs.Chains.{act_in, choice_act, duration_gap, follow, from_here, gap_behind, gap_in, gap_of, hold_gap, led_on, least_gap, line_gap, most_gap, or_else, own_act, own_start, plan_named, point_gap, resource_gap, spot_of, start_in, start_of}
 use Rattle.tp_bound_laws.specs.Chains.Led.{led}
+use Rattle.tp_bound_laws.specs.Once.{passed, passed_on}
 use Rattle.tp_bound_laws.specs.Places.{Stand}
 use Rattle.tp_bound_laws.proofs.AllowedHops.{gap-found}
 use Rattle.tp_bound_laws.proofs.SideReasons.{from-found, from-none, insert-at, into-found, into-none}
@@ -271,3 +272,19 @@ module _ (machine : Machine) (plans : List Plan) (ask : Ask) (limit : ℤ) (rule
           go None u d rest = absurd cc
           go (Some g) u d rest =
               ap (led_on k (λ g'. follow machine plans ask limit many (suc k) g'.to (sum +ℤ g'.weight) hops)) (hop-stays at' h g u (behind 0 h refl) (before 0 h refl)) ∙ rest g d
+
+    -- and they pass the same points
+    pub passed-stays : (k : ℕ) (at' : Spot) (sum : ℤ) (hops : List Hop) (to : Spot) (total : ℤ) → ((i : ℕ) (h : Hop) → slice_get hops i ≡ Some h → leads Behind res.name count h ≡ true → place ≡ hi)
+        → ((i : ℕ) (h : Hop) → slice_get hops i ≡ Some h → leads Before res.name count h ≡ true → place ≡ lo)
+        → follow machine plans ask limit one k at' sum hops ≡ led to total → passed machine plans ask limit one at' hops ≡ passed machine plans ask limit many at' hops
+    passed-stays k at' sum [] to total behind before e = refl
+    passed-stays k at' sum (h ∷ hops) to total behind before e =
+        go (gap_of machine plans ask limit one at' h) refl e (λ g. passed-stays (suc k) g.to (sum +ℤ g.weight) hops to total (λ i. behind (suc i)) (λ i. before (suc i))) where
+          go : (o : Option Gap) → gap_of machine plans ask limit one at' h ≡ o → led_on k (λ g. follow machine plans ask limit one (suc k) g.to (sum +ℤ g.weight) hops) o ≡ led to total
+              → ((g : Gap) → follow machine plans ask limit one (suc k) g.to (sum +ℤ g.weight) hops ≡ led to total → passed machine plans ask limit one g.to hops ≡ passed machine plans ask limit many g.to hops)
+              → passed machine plans ask limit one at' (h ∷ hops) ≡ passed machine plans ask limit many at' (h ∷ hops)
+          go None u d rest = absurd cc
+          go (Some g) u d rest =
+              ap (passed_on machine plans ask limit one (λ g'. passed machine plans ask limit one g'.to hops)) u
+              ∙ ap (λ ps. g.to ∷ ps) (rest g d)
+              ∙ sym (ap (passed_on machine plans ask limit many (λ g'. passed machine plans ask limit many g'.to hops)) (hop-stays at' h g u (behind 0 h refl) (before 0 h refl)))

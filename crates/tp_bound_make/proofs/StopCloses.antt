@@ -4,8 +4,8 @@ use Rattle.std.proofs.Common.{◌≡◌, inl, inr, ℕ, zero, suc, ◌+◌, ◌<
 use Rattle.std.specs.Prelude.{ℤ, pos, ◌<ℤ◌, ◌+ℤ◌, slice_index}
 use Rattle.std.proofs.lemmas.Bool.Decides.{nat_tests}
 use Rattle.std.proofs.lemmas.Int.{ints}
-use Rattle.std.proofs.lemmas.List.{take-append-drop}
-use Rattle.std.proofs.lemmas.List.Elements.{All-contains, All-head, All-tail}
+use Rattle.std.proofs.lemmas.List.{append-nil, take-append-drop}
+use Rattle.std.proofs.lemmas.List.Elements.{All-append, All-contains, All-head, All-tail}
 use Rattle.tp_base.specs.declared.edges.Edge.{Edge}
 use Rattle.tp_base.specs.declared.edges.PointId.{PointId}
 use Rattle.tp_base.specs.declared.edges.Proof.{Proof}
@@ -39,11 +39,13 @@ use Rattle.tp_placing.specs.declared.causes.EdgeCause.{EdgeCause}
 use Rattle.tp_placing.proofs.CauseFacts.{numbered-in}
 use Rattle.tp_bound_laws.specs.Chains.{cap, follow, gap_of, led_on, low, spot_of}
 use Rattle.tp_bound_laws.specs.Chains.Led.{led}
+use Rattle.tp_bound_laws.specs.Once.{PassesOnce, chain_once}
 use Rattle.tp_bound_laws.specs.Places.{Branch, Stand}
 use Rattle.tp_bound_laws.specs.Trees.{chain_look, close_look}
 use Rattle.tp_bound_laws.specs.Trees.Look.{due}
-use Rattle.tp_bound_make.specs.TellableReasons.{IsCloseOf, IsNameOf, IsTold, tell, told_until}
+use Rattle.tp_bound_make.specs.TellableReasons.{IsCloseOf, IsNameOf, IsTold, tell, told_then, told_until}
 use Rattle.tp_bound_make.proofs.FollowedEdges.{IsAllowed, IsCut, IsWhole, walked}
+use Rattle.tp_bound_make.proofs.OnceFacts.{AreEdges, apart-front, apart-turned, chain-passes, ends-append, leads-join, loop-passes, told-append}
 use Rattle.tp_bound_make.proofs.HopFacts.{named-allowed, own-named}
 use Rattle.tp_bound_make.proofs.KeptHops.{edges-kept, floor-early, points-within}
 use Rattle.tp_bound_make.proofs.LateCloses.{IsSetting, circle-first, cut-in, loop-whole, whole-closes}
@@ -235,4 +237,57 @@ module _ (machine : Machine) (plans : List Plan) (ask : Ask) (rows : List TreeRo
               ap (close_look machine plans ask rows limit alone head) m.is
               ∙ of-cut r.first (take m.at edges.now) (drop (m.at + 1) edges.now) e m.first (subst (All Edged) parts all) (subst (λ es. AreApart (ends_of es)) parts r.apart) m.cut.untold m.cut.before
               (subst (λ es. Leads r.first es r.first) parts r.leads) (subst (λ es. pos 0 <ℤ total_weight es) parts r.positive) (found last none e.to m.first edged.1.1 m.named)
+        ]
+
+    -- its hops pass no point twice
+    edges-of : (es : List Edge) (a z : ℕ) → All Edged es → All (IsTold (tell machine plans causes)) es → Leads a es z → AreEdges machine plans ask limit alone causes is.is_table.differ a z es
+    edges-of es a z all told leads = record { known = λ k d w. (all k d w).1.1; allowed = allowed-in es all; told = told; leads = leads }
+
+    chain-once : (first : ℕ) (edges : List Edge) (z : ℕ) (name : TreePoint) → All Edged edges → AreApart (first ∷ ends_of edges) → Leads first edges z → first < length table → spot_of plans (length x.choices) name ≡ Some (numbered plans first)
+        → chain_once machine plans ask limit alone (spot_of plans (length x.choices) name) (told_until (tell machine plans causes) edges)
+    chain-once first edges z name all apart leads below here = elim (walked machine plans ask limit alone causes edges first z (allowed-in edges all) leads) [
+      | inl w ↦ chain-passes machine plans ask limit alone causes is.is_table.differ name first z edges [] edges (sym (append-nil edges)) (edges-of edges first z all w.all leads) refl apart below here
+      | inr k ↦
+          let front = (All-split Edged k.before (k.edge ∷ k.behind) (subst (All Edged) k.parts all)).0 in
+          let apart' = subst AreApart (ap (λ ns. first ∷ ns) (ap ends_of k.parts ∙ ends-append k.before (k.edge ∷ k.behind))) apart in
+          chain-passes machine plans ask limit alone causes is.is_table.differ name first k.edge.from.0 k.before (k.edge ∷ k.behind) edges k.parts (edges-of k.before first k.edge.from.0 front k.all k.first)
+          (ap (λ o. told_then o (told_until (tell machine plans causes) k.behind)) k.untold) (apart-front (first ∷ ends_of k.before) (ends_of (k.edge ∷ k.behind)) apart') below here
+    ]
+
+    cut-once : (first' : ℕ) (xs ys : List Edge) (e : Edge) (name : TreePoint) → All Edged (xs ++ e ∷ ys) → AreApart (ends_of (xs ++ e ∷ ys)) → tell machine plans causes e ≡ None → All (IsTold (tell machine plans causes)) xs
+        → Leads first' (xs ++ e ∷ ys) first' → spot_of plans (length x.choices) name ≡ Some (numbered plans e.to.0)
+        → chain_once machine plans ask limit alone (spot_of plans (length x.choices) name) (told_until (tell machine plans causes) ys ++ told_until (tell machine plans causes) xs)
+    cut-once first' xs ys e name all apart untold told leads here =
+        let s = All-split Edged xs (e ∷ ys) all in
+        let edged = All-head Edged e ys s.1 in
+        let behind = All-tail Edged e ys s.1 in
+        let split = leads-split xs (e ∷ ys) first' first' leads in
+        let w2 = all-behind xs ys e e.to.0 first' all apart untold split.2.1 in
+        let round = edges-of (ys ++ xs) e.to.0 split.0 (All-append Edged ys xs behind s.0) (All-append (IsTold (tell machine plans causes)) ys xs w2.all told) (leads-join ys xs e.to.0 first' split.0 split.2.1 split.1) in
+        let turned = subst AreApart (ap (λ ns. e.to.0 ∷ ns) (sym (ends-append ys xs))) (apart-turned (ends_of xs) (ends_of (e ∷ ys)) (subst AreApart (ends-append xs (e ∷ ys)) apart)) in
+        subst (λ hops. chain_once machine plans ask limit alone (spot_of plans (length x.choices) name) hops) (told-append machine plans ask limit alone causes ys xs w2.all)
+        (chain-passes machine plans ask limit alone causes is.is_table.differ name e.to.0 split.0 (ys ++ xs) [] (ys ++ xs) (sym (append-nil (ys ++ xs))) round refl turned edged.1.1 here)
+
+    pub stop-once : (last : Option PointId) (proof : Proof) (close : Close) → last ≡ None → Refutes late proof → IsCloseOf machine plans causes last proof close → PassesOnce machine plans ask limit alone close
+    stop-once last (Chain point edges) close none r c =
+        let all = edged-in edges.now r.in_net in
+        let n = size in
+        let a = r.known in
+        subst (PassesOnce machine plans ask limit alone) (sym c.is) (chain-once point.0 edges.now r.last c.first all r.apart r.leads (omega (arith, n, a)) (found last none point c.first (omega (arith, n, a)) c.named))
+    stop-once last (Circle edges) close none r c =
+        let all = edged-in edges.now r.in_net in
+        elim c [
+          | inl l ↦
+              let begins = circle-first edges.now l.edge r.first l.there r.leads in
+              let edged = All-contains Edged edges.now l.edge all (contains-get edges.now 0 l.edge l.there) in
+              subst (PassesOnce machine plans ask limit alone) (sym l.is)
+              (loop-passes machine plans ask limit alone causes is.is_table.differ l.first r.first r.first edges.now (edges-of edges.now r.first r.first all l.all r.leads) r.apart
+              (subst (λ q. spot_of plans (length x.choices) l.first ≡ Some (numbered plans q)) begins (found last none l.edge.from l.first edged.1.0 l.named)))
+          | inr m ↦
+              let e = m.cut.edge in
+              let parts : edges.now ≡ take m.at edges.now ++ e ∷ drop (m.at + 1) edges.now = sym (take-append-drop m.at edges.now) ∙ ap (λ ys. take m.at edges.now ++ ys) (drop-one edges.now m.at e m.cut.there) in
+              let edged = All-contains Edged edges.now e all (contains-get edges.now m.at e m.cut.there) in
+              subst (PassesOnce machine plans ask limit alone) (sym m.is)
+              (cut-once r.first (take m.at edges.now) (drop (m.at + 1) edges.now) e m.first (subst (All Edged) parts all) (subst (λ es. AreApart (ends_of es)) parts r.apart) m.cut.untold m.cut.before
+              (subst (λ es. Leads r.first es r.first) parts r.leads) (found last none e.to m.first edged.1.1 m.named))
         ]

@@ -12,13 +12,15 @@ use Rattle.tp_constraints.specs.Suffixes.{IsInFlight, Suffix, with_stop}
 use Rattle.tp_placing.specs.Boards.{BoardValue, suffix_of}
 use Rattle.tp_placing.specs.Reasons.{HasEndReason, HasReason}
 use Rattle.tp_bound_laws.specs.Places.{Branch}
+use Rattle.tp_bound_laws.specs.Once.{PassesOnce}
 use Rattle.tp_bound_laws.specs.Short.{hops_in, most_hops}
 use Rattle.tp_bound_laws.specs.Trees.{close_look}
 use Rattle.tp_bound_laws.specs.Trees.Look.{due}
 
--- the close has few hops, and closes each node that stands on a branch of this suffix
+-- the close has few hops, and closes each node that stands on a branch of this suffix, where it passes no point twice
 abbrev pub Closes : Machine → List Plan → Ask → ℤ → Suffix → Close → Type 0
 Closes machine plans ask limit x close = (hops_in close ≤ most_hops) × ((rows : List TreeRow) (b : Branch) (head : Head) → b.x ≡ x → close_look machine plans ask rows limit (record { branch = b; span = None }) head close ≡ due [])
+    × ((b : Branch) → b.x ≡ x → PassesOnce machine plans ask limit (record { branch = b; span = None }) close)
 
 -- the limit is no later than the horizon
 abbrev pub IsLimit : Machine → Ask → ℤ → Type 0

@@ -15,6 +15,7 @@ use Rattle.tp_schedule.specs.declared.parts.Ask.{Ask}
 use Rattle.tp_schedule.specs.declared.parts.Plan.{Plan}
 use Rattle.tp_constraints.specs.Suffixes.{Suffix}
 use Rattle.tp_bound_laws.specs.Places.{Branch, at_places}
+use Rattle.tp_bound_laws.specs.Once.{PassesOnce}
 use Rattle.tp_bound_laws.specs.Short.{hops_in, most_hops}
 use Rattle.tp_bound_laws.specs.Trees.{close_look}
 use Rattle.tp_bound_laws.specs.Trees.Look.{due}
@@ -49,9 +50,10 @@ IsFree p (Chain first hops) = NoHop p hops
 IsFree p (Loop first hops) = NoHop p hops
 
 module _ (machine : Machine) (plans : List Plan) (ask : Ask) (limit : ℤ) (x : Suffix) (rule : HoldRule) where
-  -- the close has few hops, and closes a node at these places of the suffix's next hold
+  -- the close has few hops, and closes a node at these places of the suffix's next hold, where it passes no point twice
   abbrev pub ClosesRange : ℕ → ℕ → Close → Type 0
   ClosesRange lo hi close = (hops_in close ≤ most_hops) × ((rows : List TreeRow) (b : Branch) (head : Head) → b.x ≡ x → close_look machine plans ask rows limit (at_places machine plans ask rows b rule lo hi) head close ≡ due [])
+      × ((rows : List TreeRow) (b : Branch) → b.x ≡ x → PassesOnce machine plans ask limit (at_places machine plans ask rows b rule lo hi) close)
 
   -- the range begins at a place, and ends at or behind another, at the last at the latest
   pub record IsRange (lo place last : ℕ) (range : Range) : Type 0 where

@@ -24,6 +24,7 @@ use Rattle.tp_placing.specs.LoadedBoard.{Stands}
 use Rattle.tp_bound_laws.specs.Places as places
 use Rattle.tp_bound_laws.specs.Places.Due.{goal}
 use Rattle.tp_bound_laws.specs.Places.{Due, action_due, actions_due, children, due_behind, is_begun, places_from, stand_of, stop_due}
+use Rattle.tp_bound_laws.specs.Once.{PassOnce}
 use Rattle.tp_bound_laws.specs.Short.{IsOfFewHops}
 use Rattle.tp_bound_laws.specs.Trees.{Covers}
 use Rattle.tp_constraints.specs.Ends.{EndsBy, HasEndBy}
@@ -34,9 +35,9 @@ use Rattle.tp_bound_make.specs.declared.scene.NotShown.{NotShown}
 use Rattle.tp_bound_make.specs.declared.scene.NotShown.TheVariants.{Early, Memory}
 
 module _ (machine : Machine) (plans : List Plan) (ask : Ask) (rows : List TreeRow) (limit : ℤ) where
-  -- nodes of few hops cover what is due
+  -- nodes of few hops, which pass no point twice, cover what is due
   unfoldable pub CoversBriefly : List Due → List Node → Type 0
-  CoversBriefly ds nodes = Covers machine plans ask rows limit ds nodes × All IsOfFewHops nodes
+  CoversBriefly ds nodes = Covers machine plans ask rows limit ds nodes × All IsOfFewHops nodes × PassOnce machine plans ask rows limit ds nodes
 
   -- with nodes that cover what is due behind these, all that was due at the start is covered
   abbrev pub LeadsTo : List Due → List Node → List Due → Type 0

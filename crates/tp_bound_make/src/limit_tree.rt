@@ -11,6 +11,7 @@ ghost use Rattle.tp_bound_make.specs.RoomRows.{AreOrderedRows};
 ghost use Rattle.tp_bound_make.specs.TreeLimits.{FitsAsk};
 ghost use Rattle.tp_bound_make.specs.TreeProgress.{HasMarks, IsBack, IsEarlyEnd, IsSet, Shows};
 ghost use Rattle.tp_bound_laws.specs.Places.Due.{goal};
+ghost use Rattle.tp_bound_laws.specs.Once.{IsSimple};
 ghost use Rattle.tp_bound_laws.specs.Short.{HasFewHops};
 ghost use Rattle.tp_bound_laws.specs.Trees.{IsBoundTree};
 
@@ -98,8 +99,8 @@ fn show_goals<N: Network>(
 }
 
 /// A tree that shows that no alternative ends by the limit, a tick: room rows in their order, and a
-/// node for each way that comes by it, with the reason why it goes no further. Hops are few, since no
-/// chain and no loop passes a point twice. `Early` comes only where some alternative ends by the
+/// node for each way that comes by it, with the reason why it goes no further. No chain and no loop
+/// passes a point twice, but for a loop's return, so hops are few. `Early` comes only where some alternative ends by the
 /// limit. No mark of the board is in force. Leaves the board as it was. Where memory runs out, the
 /// call may be made again.
 pub fn show_limit<N: Network>(
@@ -122,6 +123,8 @@ pub fn show_limit<N: Network>(
     ensures rows { IfOk result (λ tree. AreOrderedRows machine.entry.now ask.entry.now
         tree.rows) }
     ensures short { IfOk result HasFewHops }
+    ensures simple { IfOk result (IsSimple machine.entry.now board.old.plans ask.entry.now
+        (pos limit)) }
     ensures early { IfErr result (IsEarlyEnd machine.entry.now board.old.plans ask.entry.now
         limit) }
     ensures back { IsBack N.reading board.old board.new

@@ -21,6 +21,7 @@ use Rattle.tp_placing.proofs.WriteLive.{gone, gone-of, put-of, stays}
 use Rattle.tp_placing.proofs.WriteWhole.{filter-agree}
 use Rattle.tp_bound_make.specs.TreeProgress as Shown
 use Rattle.tp_bound_laws.specs.Claims.{live_part}
+use Rattle.tp_bound_laws.specs.Once.{IsSimple}
 use Rattle.tp_bound_laws.specs.Short.{HasFewHops, IsShortTreeFor}
 use Rattle.tp_bound_laws.specs.Trees.{IsBoundTree}
 use Rattle.tp_bound_laws.specs.declared.claim.Claim.TheVariants.{Earliest, Never}
@@ -59,13 +60,20 @@ module _ (machine : Machine) (plans : List Plan) (ask : Ask) (live : List Plan) 
       none whole.0 whole.1
 
   -- a bound tree of the loaded plans is one for the claim
-  pub tree-never : (tree : BoundTree) → IsBoundTree machine live ask (pos (ask.now + machine.window)) tree → HasFewHops tree → IsShortTreeFor machine plans ask Never tree
-  tree-never tree is few = (subst (λ ps. IsBoundTree machine ps ask (pos (ask.now + machine.window)) tree) loaded-live is, few)
+  pub tree-never : (tree : BoundTree) → IsBoundTree machine live ask (pos (ask.now + machine.window)) tree → HasFewHops tree → IsSimple machine live ask (pos (ask.now + machine.window)) tree → IsShortTreeFor machine plans ask Never tree
+  tree-never tree is few simple = (
+    subst (λ ps. IsBoundTree machine ps ask (pos (ask.now + machine.window)) tree) loaded-live is,
+    few,
+    subst (λ ps. IsSimple machine ps ask (pos (ask.now + machine.window)) tree) loaded-live simple,
+  )
 
-  pub tree-earliest : (end last : ℕ) (tree : BoundTree) → end ≡ last + 1 → IsBoundTree machine live ask (pos last) tree → HasFewHops tree → IsShortTreeFor machine plans ask (Earliest end) tree
-  tree-earliest end last tree one is few =
-      let same : pos last ≡ pos end -ℤ pos 1 = omega (arith, ints, one) in
-      (subst (λ n. IsBoundTree machine (live_part machine ask plans) ask n tree) same (subst (λ ps. IsBoundTree machine ps ask (pos last) tree) loaded-live is), few)
+  pub tree-earliest : (end last : ℕ) (tree : BoundTree) → end ≡ last + 1 → IsBoundTree machine live ask (pos last) tree → HasFewHops tree → IsSimple machine live ask (pos last) tree → IsShortTreeFor machine plans ask (Earliest end) tree
+  tree-earliest end last tree one is few simple =
+      let same : pos last ≡ pos end -ℤ pos 1 = omega (arith, ints, one) in (
+        subst (λ n. IsBoundTree machine (live_part machine ask plans) ask n tree) same (subst (λ ps. IsBoundTree machine ps ask (pos last) tree) loaded-live is),
+        few,
+        subst (λ n. IsSimple machine (live_part machine ask plans) ask n tree) same (subst (λ ps. IsSimple machine ps ask (pos last) tree) loaded-live simple),
+      )
 
 -- an alternative that ends by a tick is none where there is none, or none ends before the next tick
 pub never-early : (machine : Machine) (live : List Plan) (ask : Ask) (last : ℕ) → ((other : List Plan) → ¬ IsAlternative machine live ask other) → ¬ EndsBy machine live ask last

@@ -52,7 +52,7 @@ abbrev pub HasFewLists : ℕ → Machine → List Plan → Deed → Type 0
 HasFewLists nodes machine plans (replied ask Never) = FewListsOpen machine plans ask nodes
 HasFewLists nodes machine plans _ = Unit {0}
 
--- the tree proves the answer, by few hops a node: no alternative ends before the asked copy's plan, or there is none. Nothing
+-- the tree proves the answer, by few hops a node that pass no point twice: no alternative ends before the asked copy's plan, or there is none. Nothing
 -- proves a spent budget
 abbrev pub ProvesReply : Machine → List Plan → Ask → Reply → List Plan → BoundTree → Type 0
 ProvesReply machine plans ask Planned plans' tree = (p : Plan) × (plan_of ask.sheet plans' ≡ Some p) × IsShortTreeFor machine plans ask (Earliest (end_of_plan p)) tree

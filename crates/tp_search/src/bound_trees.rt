@@ -21,8 +21,9 @@ use tp_placing::Board;
 use tp_schedule::Ask;
 
 /// A tree that shows that the ask for which the board is loaded, with no goal open and no mark in force, has no alternative,
-/// which is so. Its room rows stand by locations, then F before B, then by front done, then by back done. The board is as before,
-/// whatever the answer. Where memory runs out, the call may be made again.
+/// which is so. Its room rows stand by locations, then F before B, then by front done, then by back done. No chain and no loop
+/// passes a point twice, but for a loop's return. The board is as before, whatever the answer. Where memory runs out, the call
+/// may be made again.
 pub fn show_never<N: Network>(
     alloc: Global,
     work: &mut Workspace,

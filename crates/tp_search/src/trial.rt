@@ -124,7 +124,9 @@ impl<N: Network> Trial<'_, N> {
     }
 
     /// A tree that shows that no alternative ends before the trial does, for the schedule and the ask that the board was
-    /// loaded for. Its room rows stand by locations, then F before B, then by front done, then by back done. The trial is as before, whatever the answer. Where memory runs out, the call may be made again.
+    /// loaded for. Its room rows stand by locations, then F before B, then by front done, then by back done. No chain and no loop
+    /// passes a point twice, but for a loop's return. The trial is as before, whatever the answer. Where memory runs out, the call
+    /// may be made again.
     pub fn show(
         &mut self,
         alloc: Global,
@@ -165,9 +167,9 @@ impl<N: Network> Trial<'_, N> {
         tree
     }
 
-    /// Writes the plan that the board carries, and the times of all live plans with it, into the schedule of which the board holds the live plans, and
-    /// takes it off the board, which is then as before `plan`. Takes one spare plan for a new copy, and no memory. Answers whether
-    /// another plan moved. The board holds the schedule as it was: whoever asks next renews it.
+    /// Writes the plan that the board carries, and the times of all live plans with it, into the schedule of which the board
+    /// holds the live plans, and takes it off the board, which is then as before `plan`. Takes one spare plan for a new copy, and
+    /// no memory. Answers whether another plan moved. The board holds the schedule as it was: whoever asks next renews it.
     pub fn commit(self, machine: &Machine, schedule: &mut Schedule) -> bool
         requires trial { (b : BoardValue N)
             × IsTrial N.reading b machine.now self }

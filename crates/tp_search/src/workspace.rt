@@ -15,6 +15,7 @@ ghost use Rattle.tp_search.specs.declared.store.Limit.TheVariants.{Unsought};
 ghost use Rattle.tp_bound_make.specs.Closes.{IsLimit};
 ghost use Rattle.tp_bound_make.specs.RoomRows.{AreOrderedRows};
 ghost use Rattle.tp_bound_make.specs.TreeProgress.{IsEarlyEnd};
+ghost use Rattle.tp_bound_laws.specs.Once.{IsSimple};
 ghost use Rattle.tp_bound_laws.specs.Short.{HasFewHops};
 ghost use Rattle.tp_bound_laws.specs.Trees.{IsBoundTree};
 
@@ -166,6 +167,8 @@ impl Workspace {
             (pos limit)) }
         ensures rows { IfOk result (λ tree. AreOrderedRows machine.now ask.entry.now tree.rows) }
         ensures short { IfOk result HasFewHops }
+        ensures simple { IfOk result (IsSimple machine.now board.old.plans ask.entry.now
+            (pos limit)) }
         ensures early { IfErr result (IsEarlyEnd machine.now board.old.plans ask.entry.now limit) }
         ensures back { IsBack N.reading board.old board.new machine.now }
         ensures stays { StaysFor machine.now self.old self.new }

@@ -13,6 +13,7 @@ use Rattle.tp_schedule.specs.declared.parts.Reply.TheVariants.{Planned, Never, S
 use Rattle.tp_schedule.proofs.CopyFacts.{plan_of-itself, same_copy-is}
 use Rattle.tp_schedule.proofs.Membership.{Contains-filter_from}
 use Rattle.tp_bound_laws.specs.Claims.{limit_of, live_part}
+use Rattle.tp_bound_laws.specs.Once.{IsSimple}
 use Rattle.tp_bound_laws.specs.Short.{IsShortTreeFor}
 use Rattle.tp_bound_laws.specs.Trees.{IsBoundTree}
 use Rattle.tp_bound_laws.specs.declared.claim.Claim.{Claim}
@@ -56,7 +57,11 @@ module _ (machine : Machine) (plans : List Plan) (ask : Ask) (can : CanAskLive m
       (λ p in'. first-holds (is_live machine ask.now p) (is_same_copy p.sheet ask.sheet) (front-live p in')))
 
   tree-on : (claim : Claim) (tree : BoundTree) → IsShortTreeFor machine (live_at machine ask.now plans) ask claim tree → IsShortTreeFor machine plans ask claim tree
-  tree-on claim tree (is, few) = (subst (λ ps. IsBoundTree machine ps ask (limit_of machine ask claim) tree) live-on is, few)
+  tree-on claim tree (is, few, simple) = (
+    subst (λ ps. IsBoundTree machine ps ask (limit_of machine ask claim) tree) live-on is,
+    few,
+    subst (λ ps. IsSimple machine ps ask (limit_of machine ask claim) tree) live-on simple,
+  )
 
   -- the plan of the asked copy
   plan-on : {spent : Machine → List Plan → Ask → ℕ → Type 0} (live : List Plan) (p : Plan) (w : IsAnswerOnWhole spent machine plans ask Planned live) → plan_of ask.sheet live ≡ Some p → plan_of ask.sheet w.whole ≡ Some p

@@ -3,6 +3,7 @@ use Rattle.tp_machine.specs.declared.parts.State.{State}
 use Rattle.std.specs.Prelude.{pos}
 use Rattle.tp_schedule.specs.Routes.{IsGoalState}
 use Rattle.tp_bound_make.proofs.GoalFacts.{goals-are, goals-known}
+use Rattle.tp_bound_laws.specs.Once.{PassOnce}
 use Rattle.tp_bound_laws.specs.Short.{IsOfFewHops}
 use Rattle.tp_bound_laws.specs.Trees.{Covers, goals_due}
 use Rattle.tp_bound_make.proofs.GoalWalks.{covers-all}
@@ -21,6 +22,7 @@ show_goals-requires-clause-are_goals g c =
     subst (All (IsGoalState machine ask.want ask.goal)) (sym (c.as_slice.ensures.value ∙ c.in-Ok-goal_states.ensures)) (goals-are machine ask.want ask.goal)
 
 covered : (g : _) (c : In-Ok-show_goals g) → Covers c.args.machine.now c.args.board.now.plans c.args.ask.now c.in-Ok.rows (pos c.args.limit) (goals_due c.args.machine.now c.args.board.now.plans c.args.ask.now c.in-Ok.rows (pos c.args.limit)) c.show_goals.new.nodes × All IsOfFewHops c.show_goals.new.nodes
+    × PassOnce c.args.machine.now c.args.board.now.plans c.args.ask.now c.in-Ok.rows (pos c.args.limit) (goals_due c.args.machine.now c.args.board.now.plans c.args.ask.now c.in-Ok.rows (pos c.args.limit)) c.show_goals.new.nodes
 covered g c =
     covers-all c.args.machine.now c.args.board.now.plans c.args.ask.now c.args.rooms.now.sums c.args.limit c.new-nodes.result c.show_goals.new.nodes c.as_slice.result.now c.in-Ok.rows c.in-Ok.ensures.rows c.new-nodes.ensures
     (c.as_slice.ensures.value ∙ c.in-Ok-goal_states.ensures) c.in-Ok-show_goals.ensures.shown
@@ -39,3 +41,6 @@ show_goals-requires-clause-marks g c = (let none = ap length c.requires.unmarked
 
 pub returns-in-Ok-show_goals-clause-rows : goal.returns-in-Ok-show_goals-clause-rows
 returns-in-Ok-show_goals-clause-rows g c = record { sums = c.args.rooms.now.sums; rooms = c.requires.fits.rooms; made = c.in-Ok.ensures.order }
+
+pub returns-in-Ok-show_goals-clause-simple : goal.returns-in-Ok-show_goals-clause-simple
+returns-in-Ok-show_goals-clause-simple g c = (covered g (goal.at.returns-in-Ok-show_goals-clause-simple g c).In-Ok-show_goals).2

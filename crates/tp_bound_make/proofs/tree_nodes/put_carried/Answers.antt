@@ -44,7 +44,7 @@ pub returns-in-Ok-put_node-clause-put : goal.returns-in-Ok-put_node-clause-put
 returns-in-Ok-put_node-clause-put g c = λ x carries. (
   refl,
   puts c.args.scene.machine.now c.args.board.now.plans c.args.scene.ask.now c.args.scene.limit c.args.child.depth c.args.nodes.now c.put_node.new.nodes (branch_by c.args.child x) c.args.head Split
-      (λ rows. kids_of c.args.scene.machine.now c.args.board.now.plans c.args.scene.ask.now rows (branch_by c.args.child x)) c.in-Ok-put_node.ensures refl (omega arith)
+      (λ rows. kids_of c.args.scene.machine.now c.args.board.now.plans c.args.scene.ask.now rows (branch_by c.args.child x)) c.in-Ok-put_node.ensures refl (omega arith) tt
       (λ rows. split-closes c.args.scene.machine.now c.args.board.now.plans c.args.scene.ask.now rows (pos c.args.scene.limit) c.args.child x c.args.head carries.going
       (newest-hold c.args.scene.machine.now c.args.child.newest c.args.child.places x.choices carries.newest) (c.is_complete.ensures.going c.if-is_complete.false)),
 )

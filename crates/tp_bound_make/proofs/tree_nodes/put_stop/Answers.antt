@@ -16,5 +16,5 @@ returns-in-Ok g c =
     let limit = c.args.scene.limit in
     on-map (c.put_node.new.nodes ≡ c.args.nodes.now ++ record { depth = c.args.depth; head = c.args.head; close = c.in-Ok.close } ∷ []) ((b : places.Branch) (x : Suffix) → b.depth ≡ c.args.depth → b.x ≡ with_stop x → 0 < length x.choices → IsStopRefused g.N.Network.refutes machine b0 x → PutsNode machine b0.plans ask limit c.args.nodes.now c.put_node.new.nodes b c.args.head (λ _. [])) c.put_node.result
     (λ put b x depth same some refused. puts machine b0.plans ask limit c.args.depth c.args.nodes.now c.put_node.new.nodes b c.args.head c.in-Ok.close (λ _. []) put depth
-    (c.in-Ok.ensures ask x (pos limit) c.requires.set.asked refused c.requires.flying some c.requires.limit).0 (λ rows. (c.in-Ok.ensures ask x (pos limit) c.requires.set.asked refused c.requires.flying some c.requires.limit).1 rows b c.args.head same))
+    (c.in-Ok.ensures ask x (pos limit) c.requires.set.asked refused c.requires.flying some c.requires.limit).0 ((c.in-Ok.ensures ask x (pos limit) c.requires.set.asked refused c.requires.flying some c.requires.limit).2 b same) (λ rows. (c.in-Ok.ensures ask x (pos limit) c.requires.set.asked refused c.requires.flying some c.requires.limit).1 rows b c.args.head same))
     c.put_node.ensures

@@ -26,4 +26,4 @@ pub returns-in-Ok-clause-tree : goal.returns-in-Ok-clause-tree
 returns-in-Ok-clause-tree g c plans loaded =
     let some = c.requires.some in
     let one : c.args.end ≡ (c.args.end - 1) + 1 = omega (arith, some) in
-    tree-earliest c.args.machine.now plans c.args.ask.now c.args.board.now.plans loaded c.args.end (c.args.end - 1) c.in-Ok.tree one c.in-Ok.ensures.tree c.in-Ok.ensures.short
+    tree-earliest c.args.machine.now plans c.args.ask.now c.args.board.now.plans loaded c.args.end (c.args.end - 1) c.in-Ok.tree one c.in-Ok.ensures.tree c.in-Ok.ensures.short c.in-Ok.ensures.simple

@@ -25,4 +25,4 @@ unreachable-requires g c =
     never-early machine plans ask horizon (loaded-none machine c.requires.loaded.0 ask plans c.requires.loaded.1.0 on.origin c.requires.loaded.1.1) early
 
 pub returns-in-Ok-clause-tree : goal.returns-in-Ok-clause-tree
-returns-in-Ok-clause-tree g c plans loaded = tree-never c.args.machine.now plans c.args.ask.now c.args.board.now.plans loaded c.in-Ok.tree c.in-Ok.ensures.tree c.in-Ok.ensures.short
+returns-in-Ok-clause-tree g c plans loaded = tree-never c.args.machine.now plans c.args.ask.now c.args.board.now.plans loaded c.in-Ok.tree c.in-Ok.ensures.tree c.in-Ok.ensures.short c.in-Ok.ensures.simple
