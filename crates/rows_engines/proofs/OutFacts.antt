@@ -4,7 +4,6 @@ use Rattle.std.proofs.lemmas.List.Elements.{All-nil}
 use Rattle.tp_machine.specs.declared.machine.Machine.{Machine}
 use Rattle.tp_event_rules.specs.States.{empty_state}
 use Rattle.tp_event_rules.proofs.EmptyState.{kept-empty}
-use Rattle.tp_event_rules.proofs.LawfulLogs.{plannable-empty}
 use Rattle.tp_replan.specs.LooseLoop.{CanGoOut}
 
 pub empty-goes_out : (machine : Machine) → CanGoOut machine empty_state
@@ -21,12 +20,6 @@ empty-goes_out machine =
         few_plans = omega arith;
         purges = All-nil _;
       };
-      through = record {
-        jobs = kept.jobs;
-        plans = plannable-empty machine;
-        lines = kept.lines;
-        broken = record { waiting = All-nil _; plans = All-nil _ };
-        older = All-nil _;
-        purges = All-nil _;
-      };
+      broken = record { waiting = All-nil _; plans = All-nil _ };
+      older = All-nil _;
     }

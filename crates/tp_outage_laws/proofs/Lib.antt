@@ -28,6 +28,7 @@ pub mod PlannedFalls
 pub mod LivesAnswers
 pub mod SettledFalls
 pub mod AnswerFalls
+pub mod FromCopies
 pub mod Starts
 pub mod Settles
 pub mod OutagesKeep

@@ -18,15 +18,16 @@ use Rattle.tp_event_rules.specs.Outages.{outage}
 use Rattle.tp_event_rules.specs.Planners.{IsRight, PlannerSteps, GoesOut}
 use Rattle.tp_event_rules.specs.States.{SessionState}
 use Rattle.tp_event_rules.proofs.SameMoment.{now-answers}
-use Rattle.tp_event_rules.specs.StateInvariants.{total_of, KeepsSheets, is_sheet_of, open_copies, IsOlder}
+use Rattle.tp_event_rules.specs.StateInvariants.{total_of, KeepsLines, KeepsSheets, is_sheet_of, open_copies, IsOlder}
 use Rattle.tp_outage_laws.proofs.Falls.{Falls, none_breaks, HasSheets, Outset, outset_of}
 use Rattle.tp_outage_laws.proofs.OutageFalls.{falls-outage}
 use Rattle.tp_outage_laws.proofs.SettledFalls.{falls-settled}
-use Rattle.tp_outage_laws.proofs.Settles.{settles-sheets, settles}
+use Rattle.tp_outage_laws.proofs.Settles.{settles-lines, settles-sheets, settles}
+use Rattle.tp_outage_laws.proofs.FromCopies.{copies-fall}
 use Rattle.tp_outage_laws.proofs.Starts.{starts}
 use Rattle.tp_outage_laws.proofs.AnswerFalls.{answers-keep, none-loose}
 use Rattle.tp_outage_laws.proofs.JobFacts.{same-length, unbroken}
-use Rattle.tp_outage_laws.specs.Through.{KeepsOrder, KeepsThrough}
+use Rattle.tp_outage_laws.specs.Through.{KeepsCopies, KeepsOrder, KeepsThrough}
 
 pub through : (machine : Machine) (totals : List ℕ) (s : SessionState) → KeepsOrder machine totals s → KeepsThrough machine s
 through machine totals s k = record { jobs = k.jobs; plans = k.plans; lines = k.lines; broken = k.broken; older = k.sheets.older; purges = k.purges }
@@ -93,6 +94,11 @@ module _ {P : Type 0} (steps : PlannerSteps P) (machine : Machine) (spent : P �
       let retimed = subst (λ n. IsRetimed machine n none_exempt t.plans loop.plans) (sym (now-answers machine loop.answers o.state)) settled.retimed in
       subst (λ (u : SessionState). Falls machine base none_breaks u [] × ((q : Plan) → Contains u.plans q → is_front q.kind ≡ true → is_lost u q ≡ true)) (sym loop.state)
       (falls-settled machine base t after loop.plans retimed, λ q in' front. none-left t loop.plans loop.none_loose retimed.same q in' front)
+
+  pub lines-go : (s : SessionState) (m : ℕ) (jam : Bool) (p : P) (records : List Record) (s' : SessionState) (p' : P) → GoesOut steps machine s m jam p records s' p' → KeepsCopies machine s → KeepsLines s'
+  lines-go s m jam p records s' p' out k =
+      let g = falls-goes (any_outset s) s m jam p records s' p' out (copies-fall machine s k (λ job number. true) (λ job. true) (any-sheets s)) in
+      settles-lines machine (any_outset s) s' g.0 g.1
 
   pub through-goes : (s : SessionState) (m : ℕ) (jam : Bool) (p : P) (records : List Record) (s' : SessionState) (p' : P) → GoesOut steps machine s m jam p records s' p' → KeepsThrough machine s → KeepsThrough machine s'
   through-goes s m jam p records s' p' out k =

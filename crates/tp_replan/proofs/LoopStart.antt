@@ -1,5 +1,5 @@
 -- What a live state keeps between events is enough for the loop of an outage to begin.
-use Rattle.std.proofs.Common.{◌≡◌, ◌≢◌, ℕ, zero, suc, ◌+◌, ◌<◌, ◌≤◌, ◌^◌, Bool, true, false, ◌&&◌, ◌==◌, List, [], ◌∷◌, length, cond, count_by, All, AllPairs, Contains, refl, sym, ap, ◌∙◌, arith, subst}
+use Rattle.std.proofs.Common.{◌≡◌, ◌≢◌, ℕ, zero, suc, ◌<◌, ◌≤◌, Bool, true, false, ◌&&◌, List, [], ◌∷◌, length, cond, count_by, All, AllPairs, Contains, refl, sym, ap, ◌∙◌, arith, subst}
 use Rattle.std.specs.Str.{bytes_eq}
 use Rattle.std.proofs.lemmas.Bool.Decides.{nat_tests}
 use Rattle.std.proofs.lemmas.List.Elements.{All-contains, All-head, All-tail, All-weaker}
@@ -18,7 +18,8 @@ use Rattle.tp_event_rules.specs.Labels.{job_name, job_name_in}
 use Rattle.tp_event_rules.specs.Ready.{KeepsLive, last_copy}
 use Rattle.tp_event_rules.specs.Seen.{HasNextCopy}
 use Rattle.tp_event_rules.specs.States.{SessionState}
-use Rattle.tp_replan.specs.LooseLoop.{CanBeginLoop}
+use Rattle.tp_outage_laws.specs.Through.{KeepsCopies}
+use Rattle.tp_replan.specs.LooseLoop.{CanBeginLoop, CanGoOut}
 use Rattle.tp_replan.proofs.OpenFacts.{count-cons}
 use Rattle.tp_schedule.specs.LivePlans.{is_live}
 
@@ -97,3 +98,13 @@ begins-loop machine s kept =
       few_plans = let few = kept.plans.few_live in let all = count-each (is_live machine s.now) s.plans kept.live in omega arith;
       purges = kept.purges;
     }
+
+-- what is kept of copies, where a module can go out
+pub copies-out : (machine : Machine) (s : SessionState) → CanGoOut machine s → KeepsCopies machine s
+copies-out machine s can = record {
+  plans = record { now_at_most = can.loop.now_at_most; legal = can.loop.plans.legal; floors = can.loop.plans.floors; horizon = can.loop.plans.horizon };
+  lines = can.loop.lines;
+  broken = can.broken;
+  older = can.older;
+  purges = can.loop.purges;
+}

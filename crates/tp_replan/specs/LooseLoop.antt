@@ -1,5 +1,5 @@
 -- What the loop over loose copies needs of the state, and keeps.
-use Rattle.std.specs.Prelude.{◌≡◌, ℕ, ◌+◌, ◌*◌, ◌<◌, ◌≤◌, Bool, not, ◌&&◌, List, [], length, count_by, All, Contains, IsTrue}
+use Rattle.std.specs.Prelude.{◌≡◌, ℕ, ◌<◌, ◌≤◌, Bool, not, ◌&&◌, List, [], length, count_by, All, Contains, IsTrue}
 use Rattle.std.specs.List.{list_any}
 use Rattle.tp_machine.specs.declared.machine.Machine.{Machine}
 use Rattle.tp_schedule.specs.Limits.{most_live}
@@ -10,12 +10,12 @@ use Rattle.tp_schedule.specs.declared.parts.Plan.{Plan}
 use Rattle.tp_schedule.specs.declared.parts.SheetId.{SheetId}
 use Rattle.tp_schedule.specs.declared.records.Record.{Record}
 use Rattle.tp_event_rules.specs.FallBacks.{is_copy}
-use Rattle.tp_event_rules.specs.StateInvariants.{KeepsLines, KeepsPlans}
+use Rattle.tp_event_rules.specs.StateInvariants.{IsOlder, KeepsLines, KeepsPlans, open_copies}
 use Rattle.tp_event_rules.specs.Loops.{is_loose}
 use Rattle.tp_event_rules.specs.Moments.{is_to_tray}
 use Rattle.tp_event_rules.specs.Seen.{HasNextCopy, HasStarted}
 use Rattle.tp_event_rules.specs.States.{SessionState}
-use Rattle.tp_outage_laws.specs.Through.{KeepsThrough}
+use Rattle.tp_event_rules.specs.Ready.{KeepsBroken}
 use Rattle.tp_replan.specs.Open.{CanFall}
 
 -- all actions of the plan have started, and the last one is running
@@ -69,11 +69,12 @@ pub record CanBeginLoop (machine : Machine) (s : SessionState) : Type 0 where
   pub few_plans : length s.plans ≤ most_live
   pub purges : All (HasStarted s.now) s.plans
 
--- where the lost copies are told by the fronts before and after: what the loop needs, and what is kept of jobs, of broken jobs and of
--- copies that are older than an open one
+-- where the lost copies are told by the fronts before and after: what the loop needs, no copy of a broken job is still on its way, and
+-- no planned copy is older than an open one of its sheet
 pub record CanGoOut (machine : Machine) (s : SessionState) : Type 0 where
   pub loop : CanBeginLoop machine s
-  pub through : KeepsThrough machine s
+  pub broken : KeepsBroken s
+  pub older : All (λ p. All (IsOlder p) (open_copies s)) s.plans
 
 -- the notes stay, and what else holds
 pub record Stays (notes notes' : List Record) (P : Type 0) : Type 0 where

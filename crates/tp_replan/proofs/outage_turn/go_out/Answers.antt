@@ -1,5 +1,5 @@
 -- The outage, then the loop, then the settling.
-use Rattle.std.proofs.Common.{rules, ◌≡◌, ◌++◌, refl, sym, ap, ◌∙◌, append_assoc, subst}
+use Rattle.std.proofs.Common.{rules, ◌++◌, refl, sym, ap, ◌∙◌, append_assoc, subst}
 use Rattle.tp_outage_laws.proofs.OutagesLive.{live-goes}
 use Rattle.tp_event_rules.specs.LiveStates.{seen}
 use Rattle.tp_event_rules.specs.Outages.{outage}
