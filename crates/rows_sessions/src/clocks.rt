@@ -85,7 +85,6 @@ fn plan_alone<N: Network>(
 ) -> Result<(), Fail>
     requires work { IsFor work.old machine.now }
     requires made { IsMadeFor board.old.made_for machine.now }
-    requires marks { 8 ≤ N.reading.max_marks board.old.net }
     requires empty { schedule.old.plans ≡ [] }
     requires now { ask.now.now ≡ 0 }
     requires new { ask.now.origin ≡ Feeder }
@@ -111,7 +110,6 @@ fn plan_first<N: Network>(
     front: Want,
 ) -> Result<(), Fail>
     requires made { IsMadeFor board.old.made_for machine.now }
-    requires marks { 8 ≤ N.reading.max_marks board.old.net }
     requires empty { schedule.old.plans ≡ [] }
     ensures { OnOk result (CanPlanOn machine.now 0 schedule.new.plans) }
 {
