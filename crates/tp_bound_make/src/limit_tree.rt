@@ -100,9 +100,9 @@ fn show_goals<N: Network>(
 
 /// A tree that shows that no alternative ends by the limit, a tick: room rows in their order, and a
 /// node for each way that comes by it, with the reason why it goes no further. No chain and no loop
-/// passes a point twice, but for a loop's return, so hops are few. `Early` comes only where some alternative ends by the
-/// limit. No mark of the board is in force. Leaves the board as it was. Where memory runs out, the
-/// call may be made again.
+/// passes a point twice, but for a loop's return, so hops are few. `Early` comes only where some
+/// alternative ends by the limit. No mark of the board is in force. Leaves the board as it was.
+/// Where memory runs out, the call may be made again.
 pub fn show_limit<N: Network>(
     alloc: Global,
     rooms: &Rooms,

@@ -16,8 +16,8 @@ pub fn marks_keep_boards<N: Network>()
     ensures end_reasons { UntouchedKeepsEndReasons N.untouched N.refutes }
 {}
 
-/// Every board has a network that takes 330 marks, one for each step that there can be. One of them is the board's own. The call
-/// does nothing.
+/// The network of every board takes at least 330 marks, one for each step that there can be. One of them is the board's own. The
+/// call does nothing.
 pub fn boards_have_marks<N: Network>(board: &Board<N>)
     ensures { most_steps ≤ N.reading.max_marks board.now.net }
 {
