@@ -11,4 +11,4 @@ mod state_queue;
 
 pub use laws::room_law;
 pub use rooms::Rooms;
-pub use state_number::state_at;
+pub use state_number::{number_of, state_at};

@@ -5,7 +5,7 @@ ghost use Rattle.tp_routes.specs.Numbers.{number_of, state_at, side_bit, done_bi
 use tp_machine::{Face, LocId, State};
 
 /// The number of a state: eight for each location.
-pub(crate) fn number_of(state: State) -> u32
+pub fn number_of(state: State) -> u32
     ensures number { result ≡ number_of state }
     ensures within { result < state.loc.0 * 8 + 8 }
 {

@@ -1,0 +1,7 @@
+use Rattle.tp_windows.proofs.times.raise.Goals as goal
+
+pub returns-clause-between : goal.returns-clause-between
+returns-clause-between c = λ y keeps before more. c.spread_up.ensures.between y keeps (c.raise_one.ensures.between y before more)
+
+pub returns-clause-refused : goal.returns-clause-refused
+returns-clause-refused c = λ e y keeps before more. c.spread_up.ensures.refused e y keeps (c.raise_one.ensures.between y before more)
