@@ -1,6 +1,7 @@
 -- The edges along the asked copy's line.
 use Rattle.std.proofs.Common.{◌≡◌, ℕ, zero, suc, ◌+◌, ◌-◌, ◌<◌, ◌≤◌, ◌&&◌, Bool, true, false, drop, List, [], ◌∷◌, ◌++◌, length, map, refl, ap, sym, ◌∙◌, subst, arith, Option, Some, None, All, AllPairs, get_or, pos}
 use Rattle.std.specs.List.{slice_get}
+use Rattle.std.specs.Prelude.{IfSome}
 use Rattle.std.proofs.lemmas.Int.{ints}
 use Rattle.std.proofs.lemmas.Option.{slice_get_within, slice_get_read, slice_get-get_or}
 use Rattle.std.proofs.lemmas.List.{append_assoc, length-append, map-append}
@@ -19,10 +20,11 @@ use Rattle.tp_constraints.specs.Numbers.{gap_by, points_from, spot_at, table_of}
 use Rattle.tp_placing.specs.Causes.{line_tag}
 use Rattle.tp_placing.specs.Edges.{edge_of, edge_to, end_edges, end_if, first_end, first_of, is_ahead, is_behind, last_end, line_edge, plan_end}
 use Rattle.tp_placing.specs.LoadedBoard.{AreFirsts, table_with}
+use Rattle.tp_placing.specs.ReadOrders.{IsEndIn}
 use Rattle.tp_base.specs.Grows.{IsKnown}
 use Rattle.tp_placing.proofs.LineEnds.{read-at}
 use Rattle.tp_placing.proofs.LoadHolds.{drop-get}
-use Rattle.tp_placing.proofs.NearFacts.{first_plan, gap_from, gap_to, last_plan, near_gaps, plan_if}
+use Rattle.tp_placing.proofs.NearFacts.{Found, first-found, first_plan, gap_from, gap_to, last-found, last_plan, near_gaps, plan_if}
 use Rattle.tp_placing.proofs.TableFacts.{begins-at, get-right, length-firsts, length-points, points-get, table-own}
 use Rattle.tp_base.proofs.SliceFacts.{slice_get_left}
 
@@ -218,3 +220,17 @@ module _ (ask : Ask) (plans : List Plan) (firsts : List PointId) (end : PointId)
       let within = slice_get_within (table_with plans 1) end.0 _ end-own in
       All-append (IsKnown (length (table_with plans 1))) (edge_to (last_end (is_ahead ask) plans firsts) end) (line_edge end (first_end (is_behind ask) plans firsts))
       (to-can (table_with plans 1) end _ _ ahead-is within) (from-can (table_with plans 1) end _ _ behind-is within)
+
+-- the ends that are found are those of plans that are sought
+end-in : (sought : Plan → Bool) (plans : List Plan) (o : Option PointId) (q : Option Plan) → IsEndOf (table_of plans) o q → Found sought plans q → IfSome o (IsEndIn sought plans)
+end-in sought plans None q at found = tt
+end-in sought plans (Some x) None at found = absurd at
+end-in sought plans (Some x) (Some p) at found = record { plan = p; in_plans = found.0; is_sought = found.1; end = at }
+
+pub last-end-in : (sought : Plan → Bool) (plans : List Plan) (firsts : List PointId) → AreFirsts 0 plans firsts → IfSome (last_end sought plans firsts) (IsEndIn sought plans)
+last-end-in sought plans firsts a =
+    end-in sought plans (last_end sought plans firsts) (last_plan sought plans) (last-is (table_of plans) sought plans firsts (length-firsts 0 plans firsts a) (ends-in 0 [] plans firsts refl a)) (last-found sought plans)
+
+pub first-end-in : (sought : Plan → Bool) (plans : List Plan) (firsts : List PointId) → AreFirsts 0 plans firsts → IfSome (first_end sought plans firsts) (IsEndIn sought plans)
+first-end-in sought plans firsts a =
+    end-in sought plans (first_end sought plans firsts) (first_plan sought plans) (beside-is (table_of plans) sought plans firsts (length-firsts 0 plans firsts a) (ends-in 0 [] plans firsts refl a)) (first-found sought plans)

@@ -2,7 +2,7 @@
 use Rattle.std.proofs.Common.{◌≡◌, ℕ, zero, suc, ◌+◌, List, [], ◌∷◌, ◌++◌, length, map, refl, ap, sym, ◌∙◌, subst, Option, Some, None, pos, ◌-ℤ◌, ◌+ℤ◌}
 use Rattle.std.proofs.lemmas.List.{map-append, append-nil}
 use Rattle.std.specs.List.{slice_get, insert}
-use Rattle.std.proofs.lemmas.Option.{slice_get_within}
+use Rattle.std.proofs.lemmas.Option.{same_Some, slice_get_within}
 use Rattle.tp_base.proofs.SliceFacts.{slice_get_left}
 use Rattle.tp_machine.specs.Modes.{gap_between}
 use Rattle.tp_machine.specs.declared.parts.Anchor.{Anchor}
@@ -16,6 +16,7 @@ use Rattle.tp_constraints.specs.Suffixes.{gap_after, gap_until, before_place, pl
 use Rattle.tp_placing.specs.declared.parts.Held.{Held}
 use Rattle.tp_placing.specs.Edges.{anchor_point, hold_edge, edge_after, edge_until, edges_around, held_of, held_before, held_behind}
 use Rattle.tp_placing.specs.LoadedBoard.{IsSlotOf, AreSlots}
+use Rattle.tp_placing.specs.ReadOrders.{IsHoldOf}
 
 -- a longer table and more holds
 pub slot-grown : (table more : List Spot) (held others : List Held) (id : ℕ) (s : Slot) → IsSlotOf table held id s → IsSlotOf (table ++ more) (held ++ others) id s
@@ -62,6 +63,14 @@ slots-at table held [] (s ∷ slots) place a = absurd a
 slots-at table held (id ∷ ids) [] place a = absurd a
 slots-at table held (id ∷ ids) (s ∷ slots) zero a = subst (λ o. AtPlace table held o (Some s)) (sym a.0.at) (some a.0.hold s a.0.rule a.0.start a.0.end)
 slots-at table held (id ∷ ids) (s ∷ slots) (suc place) a = slots-at table held ids slots place a.1
+
+-- the hold that is read at a place is the slot there
+pub hold-of : (table : List Spot) (held : List Held) (o : Option Held) (q : Option Slot) (h : Held) (s : Slot) → AtPlace table held o q → o ≡ Some h → q ≡ Some s → IsHoldOf table h s
+hold-of table held None None h s none a b = absurd cc
+hold-of table held None (Some _) h s is a b = elim is [ ]
+hold-of table held (Some _) None h s is a b = elim is [ ]
+hold-of table held (Some _) (Some _) h s (some k r rule start end) a b =
+    subst (λ x. IsHoldOf table x s) (same_Some k h a) (subst (λ y. IsHoldOf table k y) (same_Some r s b) (record { rule = rule; start = start; end = end }))
 
 pub slots-before : (table : List Spot) (held : List Held) (ids : List ℕ) (slots : List Slot) (place : ℕ) → AreSlots table held ids slots → AtPlace table held (held_before held ids place) (before_place slots place)
 slots-before table held ids slots zero a = none

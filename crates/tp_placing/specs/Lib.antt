@@ -11,6 +11,7 @@ pub mod Settled
 pub mod LoadedBoard
 pub mod Commits
 pub mod Loaded
+pub mod ReadOrders
 pub mod Reasons
 pub mod RefusedPlace
 pub mod AddedEdges

@@ -6,6 +6,7 @@ mod added_plan;
 mod asked;
 mod board;
 mod board_names;
+mod board_orders;
 mod board_times;
 mod candidates;
 mod causes;
@@ -38,6 +39,6 @@ mod undo;
 
 pub use board::Board;
 pub use laws::{boards_have_marks, marks_keep_boards, tables_are_numbered};
-pub use parts::{Change, MadeFor};
+pub use parts::{Change, Held, MadeFor};
 pub use place_walk::Refused;
 pub use reason_names::{Grip, Spot, Why};

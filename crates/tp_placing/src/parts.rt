@@ -12,10 +12,10 @@ pub struct MadeFor {
 
 /// A hold that stands in the orders: its rule, and the points where its action starts and ends.
 #[derive(Clone, Copy)]
-pub(crate) struct Held {
-    pub(crate) rule: HoldRule,
-    pub(crate) start: PointId,
-    pub(crate) end: PointId,
+pub struct Held {
+    pub rule: HoldRule,
+    pub start: PointId,
+    pub end: PointId,
 }
 
 /// When a hold of a loaded schedule begins, in ticks, and the hold's number.

@@ -61,7 +61,11 @@ fn first_of(one: Option<PointId>, other: Option<PointId>) -> Option<PointId>
 
 /// The last points of the plans next to the asked copy in its line: of the last one ahead of it, and of the first one behind.
 /// Looks at the plans from the last one to that which is ahead.
-fn ends_beside(plans: &[Plan], firsts: &[PointId], ask: &Ask) -> (Option<PointId>, Option<PointId>)
+pub(crate) fn ends_beside(
+    plans: &[Plan],
+    firsts: &[PointId],
+    ask: &Ask,
+) -> (Option<PointId>, Option<PointId>)
     requires in_order { AllPairs IsEarlier plans.now }
     requires firsts { AreFirsts 0 plans.now firsts.now }
     requires few { length (table_of plans.now) < 2 ^ 32 }
