@@ -1,5 +1,6 @@
 pub mod StateFacts
 pub mod WayBounds
+mod WayFacts
 pub mod BoardSteps
 pub mod OpeningFacts
 pub mod ChildBoards

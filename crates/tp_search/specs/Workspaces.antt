@@ -6,7 +6,12 @@ use Rattle.tp_schedule.specs.SpentBudget.{IsSpent}
 use Rattle.tp_schedule.specs.declared.parts.Ask.{Ask}
 use Rattle.tp_schedule.specs.declared.parts.Plan.{Plan}
 use Rattle.tp_placing.specs.declared.parts.MadeFor.{MadeFor}
-use Rattle.tp_routes.specs.Tables.{IsMadeFor, RoomTable}
+use Rattle.tp_base.specs.Readings.{Reading}
+use Rattle.tp_placing.specs.Boards.{BoardValue}
+use Rattle.tp_placing.specs.Commits.{IsHeldFrom}
+use Rattle.tp_routes.specs.Index.{IsLeadIndex}
+use Rattle.tp_routes.specs.Tables.{AreRooms, IsMadeFor, RoomTable}
+use Rattle.tp_search.specs.Boards.{HasMarks, IsReady}
 use Rattle.tp_search.specs.Stores.{StoreValue}
 use Rattle.tp_search.specs.declared.goals.OpenGoal.{OpenGoal}
 
@@ -37,3 +42,14 @@ pub record IsWorkspace (rooms : RoomTable) (store : StoreValue) (goals : Vec Ope
 -- as many lists as it has nodes are open
 abbrev pub IsSpentOf : ℕ → Machine → List Plan → Ask → ℕ → Type 0
 IsSpentOf nodes machine plans ask bound = IsSpent machine plans ask nodes bound
+
+-- a search can begin: the workspace has the tables of the machine and the ask, and the board is loaded for the ask and has no
+-- choices
+pub record CanSearch {N : Type 0} (reading : Reading N) (w : WorkspaceValue) (b : BoardValue N) (machine : Machine) (ask : Ask) : Type 0 where
+  pub made : IsFor w machine
+  pub rooms : AreRooms machine ask w.rooms.sums
+  pub leads : IsLeadIndex machine w.rooms.firsts w.rooms.nexts
+  pub plans : List Plan
+  pub held : IsHeldFrom machine plans ask b.plans
+  pub ready : IsReady reading b machine ask
+  pub marks : HasMarks reading 7 b

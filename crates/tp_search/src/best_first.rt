@@ -221,13 +221,25 @@ fn step<N: Network>(
     None
 }
 
-/// Searches from these goals on, with the list that the board carries to begin with, if there is one.
+/// How many lists more may be opened after one was, where there is a limit.
+fn one_less(left: Option<u32>) -> Option<u32>
+    ensures { left ≡ None → result ≡ None }
+{
+    match left {
+        Some(count) => Some(count.saturating_sub(1)),
+        None => None,
+    }
+}
+
+/// Searches from these goals on, with the list that the board carries to begin with, if there is one. Where only so many lists
+/// may be opened and they do not suffice, the answer is `Again`.
 pub(crate) fn search<N: Network>(
     goals: &mut Vec<OpenGoal>,
     store: &mut Store,
     board: &mut Board<N>,
     problem: Problem,
     begun: Option<HeldList>,
+    most: Option<u32>,
 ) -> Outcome
     requires posed { IsPosed problem }
     requires goal { IsKnownGoal problem.machine.now problem.ask.now.goal }
@@ -248,12 +260,18 @@ pub(crate) fn search<N: Network>(
         problem.entry.ask.now begun
         → IsOutcome N.reading b board.new
         problem.entry.machine.now problem.entry.ask.now store.old.capacity result }
-    ensures whole { store.old.limit ≡ Unsought → result ≢ Again }
+    ensures whole { store.old.limit ≡ Unsought → most ≡ None → result ≢ Again }
     ensures same { IsSameSpace goals.old goals.new store.old store.new }
 {
     let mut held = begun;
     let mut barred = None;
+    let mut left = most;
     'steps: loop {
+        if let Some(0) = left {
+            take_off(board, held);
+            return Outcome::Again;
+        }
+        left = one_less(left);
         if let Some(outcome) = step(goals, store, board, problem, &mut held, &mut barred) {
             return outcome;
         }

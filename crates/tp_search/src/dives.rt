@@ -20,14 +20,28 @@ use tp_machine::ActId;
 use tp_placing::{Board, Refused, marks_keep_boards};
 use tp_schedule::{Origin, is_start};
 
+/// The first and the last place at which a hold is tried, in an order with so many: the one that is given for it, or all.
+fn tried(at: Option<[u32; 4]>, hold: u32, last: u32) -> (u32, u32)
+    ensures { result.1 ≤ last }
+{
+    match at {
+        Some(places) => {
+            let place = if hold < 4 { places[hold as usize] } else { 0 };
+            (place, place.min(last))
+        }
+        None => (0, last),
+    }
+}
+
 /// Places the holds of the newest action, from this one on, in the first way that keeps the bound: each hold is tried from the
-/// end of its order to the front. Where no way does, the board is as before.
+/// end of its order to the front, or at the place that is given for it. Where no way does, the board is as before.
 fn place_within<N: Network>(
     board: &mut Board<N>,
     problem: Problem,
     act: ActId,
     bound: Tick,
     hold: u32,
+    at: Option<[u32; 4]>,
 ) -> bool
     requires placing { (list : Laid)
         × IsPlacing N.reading board.old problem.machine.now
@@ -51,12 +65,12 @@ fn place_within<N: Network>(
     }
     marks_keep_boards::<N>();
     let resource = holds.get(hold).resource;
-    let last = board.places(resource);
-    for place in (0..=last).rev() {
+    let (first, last) = tried(at, hold, board.places(resource));
+    for place in (first..=last).rev() {
         let mark = board.mark();
         match board.try_place(problem.machine, hold, place) {
             Ok(()) => {
-                if place_within(board, problem, act, bound, hold + 1) {
+                if place_within(board, problem, act, bound, hold + 1, at) {
                     return true;
                 }
             }
@@ -72,7 +86,7 @@ fn place_within<N: Network>(
 }
 
 /// Whether the list may have one choice more, and the board has the marks to try it.
-fn can_go_on<N: Network>(board: &Board<N>, problem: Problem, list: Laid) -> bool
+pub(crate) fn can_go_on<N: Network>(board: &Board<N>, problem: Problem, list: Laid) -> bool
     requires most { kept_of problem.ask.now + list.count ≤ most_acts }
     ensures fewer { IsTrue result → kept_of problem.entry.ask.now + list.count < most_acts }
     ensures marks { IsTrue result → HasMarks N.reading 6 board.now }
@@ -80,14 +94,15 @@ fn can_go_on<N: Network>(board: &Board<N>, problem: Problem, list: Laid) -> bool
     problem.ask.origin.kept() + list.count < 64 && board.spare_marks() >= 6
 }
 
-/// The board's list with this action more, its holds placed in the first way that keeps the bound. Where there is none, the
-/// board is as before.
-fn step_by<N: Network>(
+/// The board's list with this action more, its holds placed in the first way that keeps the bound, at the places that are given
+/// for them if there are some. Where there is none, the board is as before.
+pub(crate) fn step_by<N: Network>(
     board: &mut Board<N>,
     problem: Problem,
     bound: Tick,
     list: Laid,
     act: ActId,
+    at: Option<[u32; 4]>,
 ) -> Option<Laid>
     requires posed { IsPosed problem }
     requires known { act.0 < length problem.machine.now.actions }
@@ -109,7 +124,7 @@ fn step_by<N: Network>(
     let mark = board.mark();
     match board.open_action(problem.machine, act, before.room) {
         Ok(()) => {
-            if place_within(board, problem, act, bound, 0) {
+            if place_within(board, problem, act, bound, 0, at) {
                 return Some(Laid {
                     first: before.state,
                     count: list.count + 1,
@@ -143,7 +158,7 @@ fn step_nearest<N: Network>(
         problem.entry.machine.now }
 {
     match nearest_to(problem, list.first) {
-        Some(act) => step_by(board, problem, bound, list, act),
+        Some(act) => step_by(board, problem, bound, list, act, None),
         None => None,
     }
 }
@@ -176,7 +191,7 @@ fn step_down<N: Network>(
     }
     let mut next = problem.rooms.first_to(list.first.loc);
     'acts: while let Some(act) = next {
-        if let Some(deeper) = step_by(board, problem, bound, list, act) {
+        if let Some(deeper) = step_by(board, problem, bound, list, act, None) {
             return Some(deeper);
         }
         next = problem.rooms.next_to(act);

@@ -11,7 +11,7 @@ ghost use Rattle.tp_routes.specs.Tables.{KeepsRooms};
 ghost use Rattle.tp_search.specs.Boards.{IsAtRest};
 ghost use Rattle.tp_search.specs.Engines.{AddsTree, EngineLasts, Follows, HasFewLists, HoldsPlans, IsSameEngine, KeepsTrees, Serves, StepsOn, list_of};
 ghost use Rattle.tp_search.specs.Trials.{EndsEarliest, IsNoPlan};
-ghost use Rattle.tp_search.specs.Workspaces.{IsSpentOf};
+ghost use Rattle.tp_search.specs.Workspaces.{IsFor, IsSpentOf};
 
 use crate::ask_answer::{Answered, answer_loaded, answer_with_tree, earliest_end};
 use crate::trial::NoPlan;
@@ -93,7 +93,7 @@ impl<N: Network + Drop> Engine<N> {
     {
         Ok(Engine {
             alloc,
-            work: Workspace::new(alloc, machine, nodes)?,
+            work: workspace_for(alloc, machine, nodes, bounds)?,
             board: Board::new(alloc, machine, net)?,
             kept: false,
             moved: true,
@@ -316,6 +316,23 @@ impl<N: Network> Engine<N> {
         let answered = self.answer_ready(machine, schedule, ask)?;
         self.moved = answered.moved;
         Ok(answered.reply)
+    }
+}
+
+/// The memory of a search. With bounds it searches through lists alone: no tree shows what windows find.
+fn workspace_for(
+    alloc: Global,
+    machine: &Machine,
+    nodes: u32,
+    bounds: bool,
+) -> Result<Workspace, Memory>
+    ensures made { IfOk result (λ work. IsFor work machine.now) }
+    ensures nodes { IfOk result (λ work. work.nodes ≡ nodes) }
+{
+    if bounds {
+        Workspace::of_lists(alloc, machine, nodes)
+    } else {
+        Workspace::new(alloc, machine, nodes)
     }
 }
 

@@ -33,14 +33,18 @@ pub(crate) struct OpenGoal {
 
 /// An open goal whose list a board carries since a mark.
 #[derive(Clone, Copy)]
-struct CarriedGoal {
-    goal: OpenGoal,
-    base: Mark,
+pub(crate) struct CarriedGoal {
+    pub(crate) goal: OpenGoal,
+    pub(crate) base: Mark,
 }
 
 /// Opens the goal, where it is a goal state of the ask and its list is open: the board carries the list then. Else the board is
 /// as it was.
-fn open_at<N: Network>(board: &mut Board<N>, problem: Problem, state: State) -> Option<CarriedGoal>
+pub(crate) fn open_at<N: Network>(
+    board: &mut Board<N>,
+    problem: Problem,
+    state: State,
+) -> Option<CarriedGoal>
     requires posed { IsPosed problem }
     requires known { state.loc.0 < length problem.machine.now.locations }
     requires kept { kept_of problem.ask.now ≤ most_acts }

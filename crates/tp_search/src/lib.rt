@@ -9,6 +9,7 @@ mod dives;
 mod engine;
 mod goals;
 mod held_list;
+mod laid_way;
 mod laws;
 mod next_list;
 mod opening;
@@ -18,6 +19,7 @@ mod states;
 mod store;
 mod stored_list;
 mod trial;
+mod window_search;
 mod workspace;
 
 pub use ask_answer::answer;

@@ -9,7 +9,7 @@ ghost use Rattle.tp_routes.specs.Tables.{AreRooms, KeepsRooms};
 ghost use Rattle.tp_search.specs.Boards.{HasMarks, IsBack, IsReady};
 ghost use Rattle.tp_search.specs.Limits.{HasNoLimit};
 ghost use Rattle.tp_search.specs.Outcomes.{IsOutcome};
-ghost use Rattle.tp_search.specs.Workspaces.{IsFor, StaysFor};
+ghost use Rattle.tp_search.specs.Workspaces.{CanSearch, IsFor, StaysFor};
 ghost use Rattle.tp_search.specs.declared.best_first.Outcome.TheVariants.{Again};
 ghost use Rattle.tp_search.specs.declared.store.Limit.TheVariants.{Unsought};
 ghost use Rattle.tp_bound_make.specs.Closes.{IsLimit};
@@ -23,6 +23,7 @@ use crate::best_first::{Outcome, search};
 use crate::goals::{OpenGoal, find_goals};
 use crate::problem::Problem;
 use crate::store::{Limit, Store};
+use crate::window_search::seek;
 use std::alloc::Global;
 use std::marker::Model;
 use tp_base::{Memory, Network, Tick, Undo};
@@ -32,6 +33,18 @@ use tp_machine::Machine;
 use tp_placing::{Board, boards_have_marks};
 use tp_routes::Rooms;
 use tp_schedule::Ask;
+use tp_windows::Windows;
+
+/// A search by windows is tried only where so many lists can be stored: a small budget is spent as by lists alone.
+const LEAST_NODES: u32 = 1_000;
+
+/// So many lists are opened before windows are tried.
+const FEW_LISTS: u32 = 8;
+
+/// For so many points and edges of loaded plans there is room in the windows.
+const WINDOW_POINTS: u32 = 16_642;
+
+const WINDOW_EDGES: u32 = 100_000;
 
 /// All that a search takes memory for. It is for machines with the same numbers of locations and resources and the same
 /// window as the one that it was made for. It stores as many lists as it has nodes: the budget of an ask.
@@ -39,6 +52,7 @@ pub struct Workspace {
     rooms: Rooms,
     store: Store,
     goals: Vec<OpenGoal>,
+    windows: Option<Windows>,
 }
 
 // What becomes of its parts is proved here, once for all who let go of one.
@@ -48,6 +62,7 @@ impl Drop for Workspace {
             rooms: _,
             store: _,
             goals: _,
+            windows: _,
         } = self;
     }
 }
@@ -64,8 +79,29 @@ impl Model for Workspace {
 
 impl Workspace {
     /// Takes all the memory that a search will ever hold beside its board: about 52 bytes for each node and 8 for each tick of
-    /// the window.
+    /// the window, and some 20 megabytes for windows, of which the system hands over what is used.
     pub fn new(alloc: Global, machine: &Machine, nodes: u32) -> Result<Workspace, Memory>
+        ensures made { IfOk result (λ work. IsFor work machine.now) }
+        ensures nodes { IfOk result (λ work. work.nodes ≡ nodes) }
+    {
+        let windows = Windows::new(alloc, machine, WINDOW_POINTS, WINDOW_EDGES)?;
+        Workspace::with(alloc, machine, nodes, Some(windows))
+    }
+
+    /// As `new`, for searches through lists alone: their plans are those that can be shown earliest by a walk through lists.
+    pub fn of_lists(alloc: Global, machine: &Machine, nodes: u32) -> Result<Workspace, Memory>
+        ensures made { IfOk result (λ work. IsFor work machine.now) }
+        ensures nodes { IfOk result (λ work. work.nodes ≡ nodes) }
+    {
+        Workspace::with(alloc, machine, nodes, None)
+    }
+
+    fn with(
+        alloc: Global,
+        machine: &Machine,
+        nodes: u32,
+        windows: Option<Windows>,
+    ) -> Result<Workspace, Memory>
         ensures made { IfOk result (λ work. IsFor work machine.now) }
         ensures nodes { IfOk result (λ work. work.nodes ≡ nodes) }
     {
@@ -74,6 +110,7 @@ impl Workspace {
             rooms: Rooms::new(alloc, machine)?,
             store: Store::new(alloc, nodes, machine.window + 1)?,
             goals: Vec::with_capacity(alloc, locations as usize * 8)?,
+            windows,
         })
     }
 
@@ -84,8 +121,9 @@ impl Workspace {
         self.rooms.forget();
     }
 
-    /// Searches for an earliest plan of the ask for which the board is loaded, with no goal open and no mark in force. The
-    /// workspace was used last on this machine, if it was.
+    /// Searches for an earliest plan of the ask for which the board is loaded, with no goal open and no mark in force: through
+    /// a few lists, by windows where these do not suffice, and through as many lists as there can be. The workspace was used last
+    /// on this machine, if it was.
     pub(crate) fn search<N: Network>(
         &mut self,
         board: &mut Board<N>,
@@ -108,32 +146,99 @@ impl Workspace {
     {
         boards_have_marks(board);
         self.rooms.renew(machine, ask);
-        let outcome = self.search_to(board, machine, ask, Limit::Sought);
-        match outcome {
-            Outcome::Again => self.search_to(board, machine, ask, Limit::Unsought),
+        match self.search_briefly(board, machine, ask) {
+            Outcome::Again => self.search_whole(board, machine, ask),
             ended => ended,
         }
     }
 
-    /// Searches from the start on a board with no goal open, with this limit to begin with. The table of rooms is that of the ask.
+    /// Whether windows are to be tried: the workspace has some, and stores enough lists.
+    fn has_windows(&self) -> bool {
+        self.windows.is_some() && self.store.len().saturating_add(self.store.spare()) >= LEAST_NODES
+    }
+
+    /// Searches through few lists, and by windows where they do not suffice. `Again` where neither comes to an end, or where no
+    /// windows are to be tried.
+    fn search_briefly<N: Network>(
+        &mut self,
+        board: &mut Board<N>,
+        machine: &Machine,
+        ask: &Ask,
+    ) -> Outcome
+        requires can { CanSearch N.reading self.old board.old machine.now ask.now }
+        ensures outcome { IsOutcome N.reading board.old board.new
+            machine.now ask.entry.now self.old.nodes result }
+        ensures same { self.new ≡ self.old }
+    {
+        if !self.has_windows() {
+            return Outcome::Again;
+        }
+        match self.search_to(board, machine, ask, Limit::Sought, Some(FEW_LISTS)) {
+            Outcome::Again => self.search_windows(board, machine, ask),
+            ended => ended,
+        }
+    }
+
+    /// Searches by windows. `Again` where they come to no end.
+    fn search_windows<N: Network>(
+        &mut self,
+        board: &mut Board<N>,
+        machine: &Machine,
+        ask: &Ask,
+    ) -> Outcome
+        requires can { CanSearch N.reading self.old board.old machine.now ask.now }
+        ensures outcome { IsOutcome N.reading board.old board.new
+            machine.now ask.entry.now self.old.nodes result }
+        ensures same { self.new ≡ self.old }
+    {
+        let problem = Problem {
+            rooms: &self.rooms,
+            machine,
+            ask,
+        };
+        let Some(windows) = &mut self.windows else {
+            return Outcome::Again;
+        };
+        match seek(windows, board, problem) {
+            Some(base) => Outcome::Found { base },
+            None => Outcome::Again,
+        }
+    }
+
+    /// Searches through as many lists as there can be: up to a limit first, and without one where that does not suffice.
+    fn search_whole<N: Network>(
+        &mut self,
+        board: &mut Board<N>,
+        machine: &Machine,
+        ask: &Ask,
+    ) -> Outcome
+        requires can { CanSearch N.reading self.old board.old machine.now ask.now }
+        ensures outcome { IsOutcome N.reading board.old board.new
+            machine.now ask.entry.now self.old.nodes result }
+        ensures whole { result ≢ Again }
+        ensures same { self.new ≡ self.old }
+    {
+        match self.search_to(board, machine, ask, Limit::Sought, None) {
+            Outcome::Again => self.search_to(board, machine, ask, Limit::Unsought, None),
+            ended => ended,
+        }
+    }
+
+    /// Searches from the start on a board with no goal open, with this limit to begin with, and through so many lists at most, if
+    /// their number is limited. The table of rooms is that of the ask.
     fn search_to<N: Network>(
         &mut self,
         board: &mut Board<N>,
         machine: &Machine,
         ask: &Ask,
         limit: Limit,
+        most: Option<u32>,
     ) -> Outcome
-        requires made { IsFor self.old machine.now }
-        requires rooms { AreRooms machine.now ask.now self.old.rooms.sums }
-        requires leads { IsLeadIndex machine.now self.old.rooms.firsts self.old.rooms.nexts }
-        requires held { (plans : List Plan)
-            × IsHeldFrom machine.now plans ask.now board.old.plans }
-        requires ready { IsReady N.reading board.old machine.now ask.now }
-        requires marks { HasMarks N.reading 7 board.old }
+        requires can { CanSearch N.reading self.old board.old machine.now ask.now }
         requires none { HasNoLimit limit }
         ensures outcome { IsOutcome N.reading board.old board.new
             machine.now ask.entry.now self.old.nodes result }
-        ensures whole { limit ≡ Unsought → result ≢ Again }
+        ensures whole { limit ≡ Unsought → most ≡ None → result ≢ Again }
         ensures same { self.new ≡ self.old }
     {
         self.store.clear(ask.now);
@@ -144,7 +249,14 @@ impl Workspace {
             ask,
         };
         let begun = find_goals(&mut self.goals, board, problem);
-        search(&mut self.goals, &mut self.store, board, problem, begun)
+        search(
+            &mut self.goals,
+            &mut self.store,
+            board,
+            problem,
+            begun,
+            most,
+        )
     }
 
     /// Makes a tree that shows that no alternative of the ask, for which the board is loaded with no

@@ -12,8 +12,8 @@ use Rattle.tp_search.proofs.PlaceSteps.{resource-known}
 use Rattle.tp_search.proofs.dives.+place_within.Goals as goal
 use Rattle.tp_search.proofs.dives.+place_within.Goals.{After-mark-mark, After-undo_to-in-loop-place, in-Ok+else-place_within, in-Err-Here}
 
-pub places-last-requires : goal.places-last-requires
-places-last-requires g t c =
+pub places-requires : goal.places-requires
+places-requires g t c =
     let stands = c.requires.placing.1.laid.stands in
     let known = resource-known c.args.problem.machine.now c.args.act.0 c.get.result.now c.args.hold c.get-2.result.now c.get.ensures c.get-2.ensures in
     record { known = omega (arith, known, stands.1.made.1) }
@@ -28,7 +28,7 @@ is_rule g t c = ap (λ hs. slice_get hs c.args.hold) (ap holds_of_act c.get.ensu
 
 within-order : (g : _) (t : _) (c : After-mark-mark g t) → Stands g.N.Network.reading c.args.board.now c.args.problem.machine.now
     → c.loop-place.place ≤ length (order_after c.args.problem.machine.now c.args.board.now.plans (suffix_of c.args.board.now) c.get-2.result.now.resource.0)
-within-order g t c stands = omega (arith, c.places-last.ensures c.args.problem.machine.now stands)
+within-order g t c stands = omega (arith, c.places.ensures c.args.problem.machine.now stands, c.tried-first.ensures)
 
 pub try_place-requires-clause-stands : goal.try_place-requires-clause-stands
 try_place-requires-clause-stands g t c =
