@@ -8,7 +8,7 @@ ghost use Rattle.tp_bound_laws.specs.Flaws.{IsFlawOf, bad_node_from, tree_flaw};
 ghost use Rattle.tp_bound_laws.specs.Trees.{goals_due};
 ghost use Rattle.tp_bound_laws.specs.declared.claim.TreeFlaw.TheVariants.{Memory as NoMemory};
 
-use crate::kept::{goal_states, kept_orders, live_part};
+use crate::kept::{kept_orders, live_part};
 use crate::links::{by_end, by_start};
 use crate::orders::CheckScene;
 use crate::rows::Rows;
@@ -16,7 +16,7 @@ use crate::sheets::Sheets;
 use crate::table::Table;
 use std::alloc::Global;
 use tp_base::Memory;
-use tp_bound_laws::{Claim, TreeFlaw, flawless_trees_are_bound, trees_show_bounds};
+use tp_bound_laws::{Claim, TreeFlaw, flawless_trees_are_bound, goal_states, trees_show_bounds};
 use tp_bounds::BoundTree;
 use tp_machine::Machine;
 use tp_schedule::{Ask, Schedule};

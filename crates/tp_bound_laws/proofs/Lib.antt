@@ -23,3 +23,4 @@ pub mod AllowedLineHops
 pub mod HopsTold
 pub mod SideReasons
 pub mod ShortLines
+pub mod PurgeStates

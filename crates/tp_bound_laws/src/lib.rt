@@ -1,5 +1,5 @@
-//! Bound trees: what they say, and that a tree that is right shows what it claims. The calls do
-//! nothing: their contracts are the laws.
+//! Bound trees: what they say, that a tree that is right shows what it claims, and the goal states that it begins with. The calls
+//! that take nothing do nothing: their contracts are the laws.
 #![tactic(auto)]
 
 ghost use Rattle.tp_bound_laws.specs.Claims.{TreeTells};
@@ -10,8 +10,10 @@ ghost use Rattle.tp_bound_laws.specs.Short.{FewHopsMakeShortLines};
 ghost use Rattle.tp_bound_laws.specs.Told.{HopsAreAllowed, HopsAreTold};
 
 mod claim;
+mod goals;
 
 pub use claim::{Claim, TreeFlaw};
+pub use goals::goal_states;
 
 /// Each alternative ends after the limit of a bound tree, and what a tree on the live part is for
 /// holds of the whole schedule.

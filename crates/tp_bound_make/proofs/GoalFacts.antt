@@ -1,10 +1,8 @@
--- The goal states of an ask: those of a purge at one location more, and that all are at locations.
-use Rattle.std.proofs.Common.{◌≡◌, ℕ, zero, suc, ◌+◌, ◌<◌, ◌≤◌, All, Contains, arith, length, Bool, true, false, cond, ◌||◌, ◌==◌, subst, List, [], ◌∷◌, ◌++◌, filter, flat_map, refl, ap, sym, add-one, ◌∙◌}
+-- The goal states of an ask: they are at locations of the machine, and goal states.
+use Rattle.std.proofs.Common.{◌≡◌, ℕ, zero, suc, ◌<◌, ◌≤◌, All, Contains, arith, length, Bool, true, false, cond, ◌||◌, ◌==◌, subst, List, [], ◌∷◌, filter, flat_map, refl}
 use Rattle.std.specs.List.{list_any}
 use Rattle.std.proofs.lemmas.Bool.Decides.{nat_tests}
-use Rattle.std.proofs.lemmas.List.{append-nil}
-use Rattle.std.proofs.lemmas.List.Elements.{All-append, All-cons, All-contains, All-filter, All-from_recursion, All-head, All-nil, All-push, All-tail, filter-append}
-use Rattle.std.proofs.lemmas.Grind.{flat_map-append}
+use Rattle.std.proofs.lemmas.List.Elements.{All-append, All-cons, All-contains, All-filter, All-from_recursion, All-head, All-nil, All-push, All-tail}
 use Rattle.tp_machine.specs.declared.parts.LocId.{LocId}
 use Rattle.tp_machine.specs.declared.parts.Sheet.{Sheet}
 use Rattle.tp_machine.specs.declared.parts.State.{State}
@@ -17,25 +15,6 @@ use Rattle.tp_schedule.specs.declared.parts.Goal.{Goal}
 use Rattle.tp_schedule.specs.declared.parts.Goal.TheVariants.{Purge, Tray}
 use Rattle.tp_bound_laws.specs.Places.{goal_states, is_done_wanted, is_purge, locations_below, states_at}
 use Rattle.tp_schedule.specs.PlannerAnswers.{IsKnownGoal}
-
--- the goal states of a purge at the locations below a number
-abbrev pub purges_below : Machine → Sheet → ℕ → List State
-purges_below machine sheet n = filter (is_done_wanted sheet) (flat_map states_at (filter (is_purge machine) (locations_below n)))
-
-abbrev pub purges_at : Machine → Sheet → LocId → List State
-purges_at machine sheet loc = cond (is_purge machine loc) (filter (is_done_wanted sheet) (states_at loc)) []
-
-pub purges-more : (machine : Machine) (sheet : Sheet) (n : ℕ) (now new : List State) → now ≡ purges_below machine sheet n → new ≡ now ++ purges_at machine sheet (record { 0 = n })
-    → new ≡ purges_below machine sheet (n + 1)
-purges-more machine sheet n now new was is =
-    is ∙ ap (λ xs. xs ++ purges_at machine sheet (record { 0 = n })) was ∙ ap (λ xs. purges_below machine sheet n ++ xs) (one (is_purge machine (record { 0 = n })))
-    ∙ sym (ap (filter (is_done_wanted sheet)) (ap (flat_map states_at) (filter-append (is_purge machine) (locations_below n) (record { 0 = n } ∷ [])) ∙ flat_map-append states_at (filter (is_purge machine) (locations_below n)) (filter (is_purge machine) (record { 0 = n } ∷ [])))
-    ∙ filter-append (is_done_wanted sheet) (flat_map states_at (filter (is_purge machine) (locations_below n))) (flat_map states_at (filter (is_purge machine) (record { 0 = n } ∷ []))))
-    ∙ ap (purges_below machine sheet) (sym (add-one n))
-  where
-    one : (b : Bool) → cond b (filter (is_done_wanted sheet) (states_at (record { 0 = n }))) [] ≡ filter (is_done_wanted sheet) (flat_map states_at (cond b (record { 0 = n } ∷ []) []))
-    one true = ap (filter (is_done_wanted sheet)) (sym (append-nil (states_at (record { 0 = n }))))
-    one false = refl
 
 -- ---- goal states are at locations of the machine
 below-known : (n most : ℕ) → n ≤ most → All (λ (l : LocId). l.0 < most) (locations_below n)

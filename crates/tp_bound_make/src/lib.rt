@@ -7,7 +7,6 @@ mod branch_walk;
 mod branch_ways;
 mod closed_places;
 mod goal_steps;
-mod goals;
 mod hops;
 mod limit_tree;
 mod refused_close;

@@ -17,11 +17,11 @@ ghost use Rattle.tp_bound_laws.specs.Trees.{IsBoundTree};
 
 use crate::branch_walk::show_below;
 use crate::goal_steps::enter_goal;
-use crate::goals::goal_states;
 use crate::rows::rows_of;
 use crate::scene::{NotShown, ShowScene};
 use std::alloc::Global;
 use tp_base::{Memory, Network, Tick, Undo};
+use tp_bound_laws::goal_states;
 use tp_bounds::{BoundTree, Nodes};
 use tp_machine::{Machine, State};
 use tp_placing::{Board, boards_have_marks, marks_keep_boards};

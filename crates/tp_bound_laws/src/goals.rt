@@ -114,8 +114,9 @@ fn purge_states(alloc: Global, machine: &Machine, sheet: &Sheet) -> Result<Vec<S
     Ok(states)
 }
 
-/// The goal states of an ask.
-pub(crate) fn goal_states(alloc: Global, machine: &Machine, ask: &Ask) -> Result<Vec<State>, Memory>
+/// The goal states of an ask, in the order of a tree: for a tray the finished state there; for a purge those at the purge trays whose
+/// done sides are wanted.
+pub fn goal_states(alloc: Global, machine: &Machine, ask: &Ask) -> Result<Vec<State>, Memory>
     ensures { IfOk result (λ states. states.items
         ≡ goal_states machine.now ask.entry.now.want ask.entry.now.goal) }
 {
