@@ -1,6 +1,6 @@
 -- Own holds among kept ones: an order with a branch's holds is the kept one where they are left out, and a rank tells where
 -- an own hold stands in it.
-use Rattle.std.proofs.Common.{◌≡◌, ℕ, zero, suc, ◌+◌, ◌-◌, ◌<◌, ◌==◌, ◌||◌, Bool, true, false, cond, leb, ltb, List, [], ◌∷◌, ◌++◌, length, filter, find, insert, take, drop, refl, sym, ◌∙◌, ap, arith, All, AllPairs, Option, Some, None, option_map}
+use Rattle.std.proofs.Common.{◌≡◌, ℕ, zero, suc, ◌<◌, ◌==◌, ◌||◌, Bool, true, false, cond, leb, ltb, List, [], ◌∷◌, ◌++◌, length, filter, find, insert, take, drop, refl, sym, ◌∙◌, ap, arith, All, AllPairs, Option, Some, None, option_map}
 use Rattle.std.proofs.lemmas.Bool.Decides.{nat_tests}
 use Rattle.std.proofs.lemmas.List.Elements.{All-nil, All-cons, All-head, All-tail, All-take, All-drop}
 use Rattle.tp_constraints.specs.Gaps.{Gap, slot_gap}

@@ -1,4 +1,5 @@
-use Rattle.std.proofs.Common.{◌≡◌, ◌∙◌, ap, sym, cond, Bool, List, ◌++◌, ◌∷◌, [], refl, true, false, ◌||◌}
+use Rattle.std.proofs.Common.{◌≡◌, ◌∙◌, ap, sym, cond, Bool, List, ◌++◌, ◌∷◌, [], refl, true, false, ◌||◌, arith}
+use Rattle.std.proofs.lemmas.Grind.{common_steps}
 use Rattle.std.proofs.lemmas.List.{append-nil}
 use Rattle.tp_schedule.specs.declared.parts.Plan.{Plan}
 use Rattle.tp_schedule.specs.LivePlans.{is_live}
@@ -16,3 +17,6 @@ plans-preserved c =
     let p = c.plan_at.result.now in
     let b = is_live m a.now p || is_same_copy p.sheet a.sheet in
     c.in_ok-keep.ensures ∙ kept-or b c.plans.kept.items p ∙ ap (λ xs. xs ++ cond b (p ∷ []) []) c.plans.invariant ∙ sym (live-more m a ps c.plans.at p c.plan_at.ensures.plan)
+
+pub returns : goal.returns
+returns c = grind (arith, common_steps)

@@ -1,5 +1,6 @@
+use Rattle.std.proofs.lemmas.Grind.{common_steps}
 -- What is read makes one plan, and no other right one is given.
-use Rattle.std.proofs.Common.{◌≡◌, ◌++◌, ◌∙◌, All, ap, subst, sym}
+use Rattle.std.proofs.Common.{◌≡◌, ◌++◌, ◌∙◌, All, ap, subst, sym, arith}
 use Rattle.std.specs.Prelude.{IfSome, option_copied}
 use Rattle.tp_schedule.specs.Answers.{AnswersAsk, acts_in}
 use Rattle.tp_schedule.specs.Plans.{IsFormed, plan_of}
@@ -159,3 +160,6 @@ returns-clause-told c =
           (made-told machine plans ask c.requires.asked formed c.args.place.now c.args.points.now c.args.names.now named.0 read answers ends');
       only = λ q timed t. is-made machine plans ask c.requires.asked formed c.args.place.now c.args.points.now c.args.names.now named.0 read c.machine_law.ensures q timed t ∙ sym made;
     }
+
+pub make_plan-plan-requires-clause-room : goal.make_plan-plan-requires-clause-room
+make_plan-plan-requires-clause-room c = grind (arith, common_steps)

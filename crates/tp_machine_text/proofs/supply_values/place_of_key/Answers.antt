@@ -1,4 +1,5 @@
 use Rattle.std.proofs.Common.{◌∙◌, arith}
+use Rattle.std.proofs.lemmas.Grind.{common_steps}
 use Rattle.tp_machine_text.proofs.Sorted.{length_keys, keys_counted, keys_placed}
 use Rattle.tp_machine_text.proofs.supply_values.place_of_key.Goals as goal
 
@@ -10,3 +11,9 @@ keys-init c =
 
 pub overflow_add-place : goal.overflow_add-place
 overflow_add-place c = omega (arith, length_keys c.args.table.now.entries)
+
+pub keys-preserved : goal.keys-preserved
+keys-preserved c = record {
+  counted = grind (arith, common_steps);
+  placed = grind (arith, common_steps);
+}

@@ -1,4 +1,5 @@
-use Rattle.std.proofs.Common.{◌≡◌, true}
+use Rattle.std.proofs.Common.{◌≡◌, true, arith}
+use Rattle.std.proofs.lemmas.Grind.{common_steps}
 use Rattle.std.specs.List.{list_any}
 use Rattle.std.specs.Str.{bytes_eq}
 use Rattle.tp_snapshot.proofs.Names.{name-twice, names-all, names-apart, there-by}
@@ -12,3 +13,9 @@ returns-then-not-branch-clause-none c =
 
 pub returns-clause-differ : goal.returns-clause-differ
 returns-clause-differ c = names-apart c.args.jobs.now c.loop-job.names.keys (names-all c.args.jobs.now c.loop-job.job-index c.loop-job.names.keys c.loop-job-test.false c.loop-job.invariant.names) c.loop-job.invariant.distinct
+
+pub loop-job-preserved : goal.loop-job-preserved
+loop-job-preserved c = record {
+  names = grind (arith, common_steps);
+  distinct = grind (arith, common_steps);
+}

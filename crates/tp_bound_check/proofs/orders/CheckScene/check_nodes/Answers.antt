@@ -1,4 +1,5 @@
-use Rattle.std.proofs.Common.{◌∙◌, sym, subst, Option, drop}
+use Rattle.std.proofs.Common.{◌∙◌, sym, subst, Option, drop, arith}
+use Rattle.std.proofs.lemmas.Grind.{common_steps}
 use Rattle.tp_bound_laws.specs.Flaws.{IsFlawOf, bad_node_from}
 use Rattle.tp_bound_laws.specs.declared.claim.TreeFlaw.{TreeFlaw}
 use Rattle.tp_bound_check.specs.Looks.{due_on}
@@ -25,3 +26,6 @@ nodes-preserved c =
       room = c.check_node.ensures.room;
       left = c.nodes.invariant.left ∙ node-on s.rows.machine.now s.plans.now s.rows.ask.now s.rows.rows.now s.limit c.nodes.at before after c.args.nodes.now c.get.result.now c.get.ensures c.in-Ok-check_node.ensures.ok;
     }
+
+pub returns-clause-flaw : goal.returns-clause-flaw
+returns-clause-flaw c = grind (arith, common_steps)

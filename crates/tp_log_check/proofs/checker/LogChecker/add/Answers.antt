@@ -1,4 +1,5 @@
-use Rattle.std.proofs.Common.{◌≡◌, [], ◌∷◌, ◌++◌, List, None, sym, subst}
+use Rattle.std.proofs.Common.{◌≡◌, [], ◌∷◌, ◌++◌, List, None, sym, subst, arith}
+use Rattle.std.proofs.lemmas.Grind.{common_steps}
 use Rattle.std.specs.Prelude.{option_map}
 use Rattle.tp_log_check.specs.Gathered.{lines_of}
 use Rattle.tp_log.specs.LogLines.{AreInOrder}
@@ -18,3 +19,18 @@ returns-clause-refused c =
     let seen_h = subst (λ v. HasTaken v before) (sym c.self.view_is) h in
     let with_p = subst (λ o. HasTaken (record { machine = inside.machine; state = seen inside.state; under = option_map underway o; events = inside.events; lines = inside.lines; counts = inside.counts; flaw = inside.flaw }) before) c.in-Some.is seen_h in
     taken-off inside.machine (seen inside.state) inside.events inside.lines inside.counts inside.flaw p c.args.told off before with_p order)
+
+pub add-requires-clause-pending : goal.add-requires-clause-pending
+add-requires-clause-pending c = grind (arith, common_steps)
+
+pub add-requires-clause-line : goal.add-requires-clause-line
+add-requires-clause-line c = grind (arith, common_steps)
+
+pub add-requires-clause-plain : goal.add-requires-clause-plain
+add-requires-clause-plain c = grind (arith, common_steps)
+
+pub returns-clause-taken : goal.returns-clause-taken
+returns-clause-taken c = grind (arith, common_steps)
+
+pub returns-clause-begun : goal.returns-clause-begun
+returns-clause-begun c = grind (arith, common_steps)

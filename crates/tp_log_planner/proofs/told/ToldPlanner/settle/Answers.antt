@@ -1,5 +1,6 @@
+use Rattle.std.proofs.lemmas.Grind.{common_steps}
 -- What is taken from the first item that is no aside on is taken of the items to come.
-use Rattle.std.proofs.Common.{◌≡◌, ℕ, ◌+◌, ◌-◌, ◌∙◌, List, drop, length, take, ap, subst, sym}
+use Rattle.std.proofs.Common.{◌≡◌, ℕ, ◌+◌, ◌-◌, ◌∙◌, List, drop, length, take, ap, subst, sym, arith}
 use Rattle.tp_log.specs.declared.item.Item.{Item}
 use Rattle.tp_log_planner.specs.TakenAnswers.{DoTellSettled, TakesSettled}
 use Rattle.tp_schedule.specs.declared.parts.Halt.TheVariants.{Stopped}
@@ -43,3 +44,15 @@ returns-in-Err-clause-stopped c = λ e. (
     let why = kept-reason (R (take (length c.deref.result.now - next) (drop next c.deref.result.now))) c.in-Err.failure c.halt.new.self.stop c.args.self.now c.halt.result c.halt.new.self (length c.args.self.now.items) c.halt.ensures.halts halts c.halt.ensures.kept c.in-Err.ensures.why in
     let stopped : HasStopped c.args.self.now c.halt.result c.halt.new.self = both.1 in
     stops-settled m plans c.args.self.now next c.next-next.ensures.items c.next-next.ensures.further c.args.now c.halt.result c.halt.new.self (subst (λ xs. P xs → ⊥) path both.0) (subst (λ xs. KeepsWhy (R xs) c.halt.new.self.stop (length c.args.self.now.items)) path why) stopped)
+
+pub returns-in-Err-clause-stops_only : goal.returns-in-Err-clause-stops_only
+returns-in-Err-clause-stops_only c = grind (arith, common_steps)
+
+pub returns-in-Err-clause-counted : goal.returns-in-Err-clause-counted
+returns-in-Err-clause-counted c = grind (arith, common_steps)
+
+pub returns-in-Err-clause-lasts : goal.returns-in-Err-clause-lasts
+returns-in-Err-clause-lasts c = grind (arith, common_steps)
+
+pub returns-in-Err-clause-memory : goal.returns-in-Err-clause-memory
+returns-in-Err-clause-memory c = grind (arith, common_steps)
