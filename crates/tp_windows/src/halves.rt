@@ -22,6 +22,9 @@ use tp_base::{PointId, Tick};
 use tp_machine::Machine;
 use tp_schedule::Ask;
 
+/// So many ticks before the best way known the first way of a walk may end.
+const FAR: Tick = 16;
+
 /// Where a walk is: the sides of splits that lead to the half that is looked at, with the ranges and rows there.
 #[derive(Drop)]
 pub(crate) struct Node {
@@ -167,6 +170,11 @@ fn find_way(
     node.labels.way(sought, steps)
 }
 
+/// Whether the first way of all ends so long before `end` that many halves are likely to wait.
+fn is_far(path: &[Side], from: Tick, end: Tick) -> bool {
+    path.is_empty() && end.saturating_sub(from) > FAR
+}
+
 /// Seeks a way in the ranges of a half that ends before `end`.
 fn seek(
     root: &Root,
@@ -193,6 +201,9 @@ fn seek(
         Way::Never => Looked::Closed,
         Way::GaveUp => Looked::GaveUp,
         Way::Found { label, end: from } => {
+            if is_far(&node.path, from, end) {
+                return Looked::GaveUp;
+            }
             let left = node.trial.spread.left;
             let judged = try_way(root, node, machine, label);
             charge(steps, left, node.trial.spread.left);
