@@ -1,33 +1,33 @@
 //! The actions by the location that they start from, or by the one that they lead to.
-ghost use Rattle.std.specs.Prelude.{◌≡◌, ◌<◌, ◌≤◌, None, length, replicate, slice_get, IfOk, IfSome};
+ghost use Rattle.std.specs.Prelude.{◌≡◌, ◌<◌, ◌≤◌, None, length, option_map, replicate, slice_get, IfOk, IfSome};
 ghost use Rattle.tp_machine.specs.Limits.{most_actions};
-ghost use Rattle.tp_routes.specs.Index.{AreIndexed, IsIndexOf, location_at};
+ghost use Rattle.tp_routes.specs.Index.{AreIndexed, IsIndexOf, location_at, number_at};
 
 use std::alloc::{AllocError, Global};
-use tp_machine::Machine;
+use tp_machine::{ActId, LocId, Machine};
 
 /// A machine has at most so many actions.
 const MOST_ACTIONS: usize = 512;
 
 /// An end of an action: where it starts, or where it leads.
 #[derive(Clone, Copy)]
-pub(crate) enum ActEnd {
+pub enum ActEnd {
     From,
     To,
 }
 
 /// The actions of a machine by the location at one of their ends.
 #[derive(Drop)]
-pub(crate) struct ActionIndex {
+pub struct ActionIndex {
     /// The first action at each location.
-    pub(crate) firsts: Vec<Option<u16>>,
+    pub firsts: Vec<Option<u16>>,
     /// Behind each action the next one at the same location.
-    pub(crate) nexts: Vec<Option<u16>>,
+    pub nexts: Vec<Option<u16>>,
 }
 
 impl ActionIndex {
-    /// An index for machines with so many locations.
-    pub(crate) fn new(alloc: Global, locations: u32) -> Result<ActionIndex, AllocError>
+    /// An index for machines with so many locations. It takes all the memory that it will ever need, and has no action before `fill`.
+    pub fn new(alloc: Global, locations: u32) -> Result<ActionIndex, AllocError>
         ensures locations { IfOk result (λ i. length i.firsts.items ≡ locations) }
         ensures room { IfOk result (λ i. length i.nexts.items ≡ most_actions) }
     {
@@ -38,13 +38,33 @@ impl ActionIndex {
     }
 
     /// Indexes the actions of the machine by this end, in place of what was there.
-    pub(crate) fn fill(&mut self, machine: &Machine, end: ActEnd)
+    pub fn fill(&mut self, machine: &Machine, end: ActEnd)
         requires locations { length self.old.firsts.items ≡ length machine.now.locations }
         requires room { length self.old.nexts.items ≡ most_actions }
         ensures index { IsIndexOf end machine.now self.new.firsts.items self.new.nexts.items }
         ensures room { length self.new.nexts.items ≡ most_actions }
     {
         index_actions(machine, end, &mut self.firsts, &mut self.nexts);
+    }
+
+    /// The first action at the location, if there is one.
+    pub fn first(&self, loc: LocId) -> Option<ActId>
+        ensures { option_map (λ act. act.0) result ≡ number_at self.now.firsts.items loc.0 }
+    {
+        match self.firsts.get(usize::from(loc.0)) {
+            Some(first) => first.map(ActId),
+            None => None,
+        }
+    }
+
+    /// Behind an action the next one at the same location, if there is one.
+    pub fn next(&self, act: ActId) -> Option<ActId>
+        ensures { option_map (λ act. act.0) result ≡ number_at self.now.nexts.items act.0 }
+    {
+        match self.nexts.get(usize::from(act.0)) {
+            Some(next) => next.map(ActId),
+            None => None,
+        }
     }
 }
 

@@ -4,6 +4,7 @@ pub mod Gapping
 pub mod Covering
 pub mod Fronts
 pub mod Arraying
+pub mod IndexedSteps
 pub mod InGaps
 pub mod Waiting
 pub mod LinkFacts

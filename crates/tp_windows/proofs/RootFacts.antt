@@ -1,5 +1,5 @@
 -- What a walk begins with, and the windows of its halves.
-use Rattle.std.proofs.Common.{◌≡◌, ℕ, ◌<◌, ◌&&◌, eq-eqb, Bool, true, false, List, [], ◌∷◌, length, reverse, refl, ap, sym, ◌∙◌, subst, Option, Some, None, All, AllPairs, IsTrue}
+use Rattle.std.proofs.Common.{arith, ◌≡◌, ℕ, ◌<◌, ◌≤◌, ◌&&◌, eq-eqb, Bool, true, false, List, [], ◌∷◌, length, reverse, refl, ap, sym, ◌∙◌, subst, Option, Some, None, All, AllPairs, IsTrue}
 use Rattle.std.specs.Prelude.{◌≢◌, IfSome, option_map, slice_index}
 use Rattle.std.proofs.lemmas.List.{length-map, reverse-append}
 use Rattle.std.proofs.lemmas.List.Elements.{All-cons, All-nil, All-pop}
@@ -26,12 +26,15 @@ use Rattle.tp_placing.specs.LoadedBoard.{IsNetOf, Stands}
 use Rattle.tp_placing.specs.ReadOrders.{IsEndIn}
 use Rattle.tp_windows.specs.Arrays.{EndsBefore, IsBetween, IsTimes, windows_by}
 use Rattle.tp_windows.specs.Halves.{AreWindowsOf, Meets}
-use Rattle.tp_windows.specs.Sides.{IsOnSide}
+use Rattle.tp_windows.specs.Links.{edges_of}
+use Rattle.tp_windows.specs.Roots.{IsRoot}
+use Rattle.tp_windows.specs.Sides.{HaveBoth, IsFit, IsOnSide}
 use Rattle.tp_windows.specs.SoughtWays.{IsAhead, IsBehind}
 use Rattle.tp_windows.specs.Walks.{half_of, halves_of}
 use Rattle.tp_windows.specs.Ways.{FitsLine}
 use Rattle.tp_windows.specs.Windows.{MayStand}
 use Rattle.tp_windows.specs.declared.ranges.Side.{Side}
+use Rattle.tp_windows.specs.declared.root.Root.{Root}
 use Rattle.tp_windows.proofs.Arraying.{times, to-windows}
 
 -- the network of a loaded board with no goal open
@@ -84,6 +87,21 @@ module _ (plans : List Plan) (ask : Ask) (differ : AllPairs (λ a b. a ≢ b) (t
       let to = to-tray ask.goal is.plan both.0 in
       let less = line is.plan is.in_plans to.0 to.1 to.2 both.1 in
       subst (λ x. IfSome x (IsOnSide y)) (sym same) (subst (λ n. y n < limit) (at-end (is_ahead ask) point is) less)
+
+-- what was read fits together
+pub root_fits : (machine : Machine) (plans : List Plan) (ask : Ask) (net : Net) (root : Root) → IsRoot machine plans ask net root → IsFit root.ranges root.edges
+root_fits machine plans ask net root is = (
+  is.wide.1 ∙ sym is.wide.0,
+  subst (λ n. HaveBoth n (edges_of root.edges.from.links.items) root.edges) (sym is.wide.0)
+      (subst (λ all. HaveBoth (length (table_of plans)) all root.edges) (sym is.edges.0.all) is.edges),
+)
+
+-- times that end the line before a limit end it before a greater one
+pub times_later : (plans : List Plan) (ask : Ask) (table : List Spot) (net : Net) (lower limit : ℕ) (y : ℕ → ℕ) → lower ≤ limit → IsTimes plans ask table net lower y → IsTimes plans ask table net limit y
+times_later plans ask table net lower limit y le times = record {
+  solution = times.solution;
+  line = λ p in' tray goes delivered before. let less = times.line p in' tray goes delivered before in omega (arith, less, le);
+}
 
 all-reversed : {X : Type 0} (P : X → Type 0) (xs : List X) → All P (reverse xs) → All P xs
 all-reversed P [] all = All-nil P

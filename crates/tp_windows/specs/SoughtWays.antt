@@ -1,6 +1,8 @@
 -- What a way is sought for, in plans and windows.
 use Rattle.std.specs.Prelude.{◌≡◌, ℕ, ◌+◌, ◌<◌, ◌≤◌, List, Option, Some, None}
 use Rattle.tp_machine.specs.declared.parts.State.{State}
+use Rattle.tp_routes.specs.Index.{IsIndexOf}
+use Rattle.tp_routes.specs.declared.index.ActEnd.TheVariants.{From}
 use Rattle.tp_schedule.specs.PlannerAnswers.{IsKnownGoal}
 use Rattle.tp_schedule.specs.declared.parts.Plan.{Plan}
 use Rattle.tp_windows.specs.KeptRows.{AreRowsOf}
@@ -26,11 +28,12 @@ abbrev pub IsAhead : Option ℕ → ℕ → Type 0
 IsAhead None end = Unit {0}
 IsAhead (Some tick) end = end < tick
 
--- what is sought is sought in these plans and windows: the rests and rows are theirs, and each end that fits the line lies
--- between the ends beside it
+-- what is sought is sought in these plans and windows: the rests, the index and the rows are theirs, and each end that fits the line
+-- lies between the ends beside it
 pub record IsSoughtIn (sought : Sought) (plans : List Plan) (w : Windows) : Type 0 where
   pub goal : IsKnownGoal sought.machine.now sought.ask.now.goal
   pub rests : IsRest sought.machine.now sought.ask.now (rest_of sought.rests.now.rests.items)
+  pub starts : IsIndexOf From sought.machine.now sought.starts.now.firsts.items sought.starts.now.nexts.items
   pub rows : AreRowsOf sought.machine.now plans w sought.rows.now.rows
   pub line : (end : ℕ) → FitsLine plans sought.ask.now w end → IsBehind sought.after end × IsAhead sought.before end
 

@@ -77,7 +77,8 @@ IsGoneOn machine plans ask path Lost = Unit {0}
 abbrev pub IsTurned : Machine → List Plan → Ask → List Side → List Side → ℕ → Turned → Type 0
 IsTurned machine plans ask path path' end turned = AreLeft machine plans ask (waiting_at (table_of plans) path) (end - 1) → IsGoneOn machine plans ask path' turned
 
-abbrev pub IsLaterTurn : Turned → Type 0
-IsLaterTurn (Next sooner) = 0 < sooner
-IsLaterTurn (Over sooner) = 0 < sooner
-IsLaterTurn Lost = Unit {0}
+-- the end is no later then, and not 0
+abbrev pub IsSoonerTurn : ℕ → Turned → Type 0
+IsSoonerTurn end (Next sooner) = (0 < sooner) × (sooner ≤ end)
+IsSoonerTurn end (Over sooner) = (0 < sooner) × (sooner ≤ end)
+IsSoonerTurn end Lost = Unit {0}

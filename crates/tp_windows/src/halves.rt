@@ -8,12 +8,12 @@ ghost use Rattle.tp_windows.specs.Arrays.{IsBetween, windows_by};
 ghost use Rattle.tp_windows.specs.KeptRows.{HaveOrders};
 ghost use Rattle.tp_windows.specs.Links.{edges_of};
 ghost use Rattle.tp_windows.specs.Sides.{AreWide, IsFit, IsOnSide};
-ghost use Rattle.tp_windows.specs.Roots.{IsRoot};
+ghost use Rattle.tp_windows.specs.Roots.{IsRoot, IsRootBy};
 ghost use Rattle.tp_windows.specs.Walks.{IsSeen, IsSeenIn, IsSooner, IsVerdict, IsWayIn, halves_of};
 
 use crate::conflicts::{Half, Judged, Trial, judge};
 use crate::kept_rows::{KeptRows, time_at};
-use crate::ranges::{Ranges, Side, copy_ranges, copy_times, keep_side, keep_sides};
+use crate::ranges::{Ranges, Side, copy_ranges, copy_times, keep_side, keep_sides, line_side};
 use crate::root::Root;
 use crate::sought::Sought;
 use crate::times::Spread;
@@ -42,21 +42,6 @@ pub(crate) enum Looked {
     Found(Tick),
     Split(Side),
     GaveUp,
-}
-
-/// The side of a line's end that comes before the tick.
-fn line_side(end: Option<PointId>, tick: Tick) -> Option<Side>
-    ensures { result
-        ≡ option_map (λ p. record { point = p; tick = tick; later = false }) end }
-{
-    match end {
-        Some(point) => Some(Side {
-            point,
-            tick,
-            later: false,
-        }),
-        None => None,
-    }
 }
 
 /// The time of a line's end.
@@ -162,6 +147,7 @@ fn find_way(
         machine,
         ask,
         rests: &root.rests,
+        starts: &root.starts,
         rows: &node.rows,
         after,
         before,
@@ -270,8 +256,9 @@ pub(crate) fn look(
         → HaveOrders machine.now plans node.new.rows.rows }
     ensures steps { steps.new ≤ steps.old }
     ensures sooner { IsSooner end result }
-    ensures seen { (plans : List Plan) (net : Net) → IsKnownGoal machine.now ask.entry.now.goal
-        → IsRoot machine.now plans ask.entry.now net root.now
+    ensures seen { (plans : List Plan) (net : Net) (limit : ℕ) → end - 1 ≤ limit
+        → IsKnownGoal machine.now ask.entry.now.goal
+        → IsRootBy machine.now plans ask.entry.now net limit root.now
         → HaveOrders machine.now plans node.old.rows.rows
         → IsSeen machine.now plans ask.entry.now
         (halves_of (table_of plans) node.old.path.items) end result }

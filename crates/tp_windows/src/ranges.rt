@@ -1,5 +1,5 @@
 //! Between which ticks points can be.
-ghost use Rattle.std.specs.Prelude.{◌≡◌, ℕ, ◌+◌, ◌-◌, ◌<◌, ◌≤◌, false, true, All, IsTrue, length, slice_index};
+ghost use Rattle.std.specs.Prelude.{◌≡◌, ℕ, ◌+◌, ◌-◌, ◌<◌, ◌≤◌, false, true, All, IsTrue, length, option_map, slice_index};
 ghost use Rattle.tp_base.specs.Net.{IsSolution, Keeps};
 ghost use Rattle.tp_windows.specs.Arrays.{IsBetween};
 ghost use Rattle.tp_windows.specs.Links.{AreLinked, edges_of};
@@ -40,6 +40,21 @@ pub(crate) struct Side {
     pub(crate) point: PointId,
     pub(crate) tick: Tick,
     pub(crate) later: bool,
+}
+
+/// The side of a line's end that comes before the tick.
+pub(crate) fn line_side(end: Option<PointId>, tick: Tick) -> Option<Side>
+    ensures { result
+        ≡ option_map (λ p. record { point = p; tick = tick; later = false }) end }
+{
+    match end {
+        Some(point) => Some(Side {
+            point,
+            tick,
+            later: false,
+        }),
+        None => None,
+    }
 }
 
 /// Reads the least and the greatest times of so many points from their network. Answers false where there is no room.

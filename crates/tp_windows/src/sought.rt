@@ -12,15 +12,17 @@ use crate::rests::Rests;
 use crate::span::Span;
 use tp_base::Tick;
 use tp_machine::{Machine, State};
+use tp_routes::ActionIndex;
 use tp_schedule::{Ask, Origin, is_goal};
 
-/// What a way is sought for: a machine and an ask, the rests of its states, the kept holds of resources, between which ends of the line,
-/// and by which limit, in ticks.
+/// What a way is sought for: a machine and an ask, the rests of its states, its actions by where they start, the kept holds of
+/// resources, between which ends of the line, and by which limit, in ticks.
 #[derive(Clone, Copy)]
 pub(crate) struct Sought<'a> {
     pub(crate) machine: &'a Machine,
     pub(crate) ask: &'a Ask,
     pub(crate) rests: &'a Rests,
+    pub(crate) starts: &'a ActionIndex,
     pub(crate) rows: &'a KeptRows,
     pub(crate) after: Option<Tick>,
     pub(crate) before: Option<Tick>,

@@ -305,7 +305,7 @@ pub(crate) fn spread_down(
 }
 
 /// Lowers the greatest time of a point alone.
-fn lower_one(lows: &[Tick], highs: &mut [Tick], point: PointId, tick: Tick)
+pub(crate) fn lower_one(lows: &[Tick], highs: &mut [Tick], point: PointId, tick: Tick)
     requires point { point.0 < length highs.old }
     ensures same { length highs.new ≡ length highs.old }
     ensures between { (y : ℕ → ℕ) → IsBetween y lows.now highs.old → y point.0 ≤ tick

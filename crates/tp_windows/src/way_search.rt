@@ -193,10 +193,21 @@ fn spread(
     ensures grows { Grows front.old front.new }
     ensures keyed { KeepsKeys sought.entry.rests.now.rests.items front.old front.new }
 {
-    'acts: for act in 0..sought.machine.actions.len() {
-        if !step_on(front, ends, sought, number, from, ActId(act as u16)) {
+    if usize::from(from.state.loc.0) >= sought.starts.firsts.len() {
+        return false;
+    }
+    let mut next = sought.starts.first(from.state.loc);
+    let mut least = 0;
+    'acts: while let Some(act) = next {
+        let at = u32::from(act.0);
+        if at < least || at >= sought.machine.actions.len() {
             return false;
         }
+        if !step_on(front, ends, sought, number, from, act) {
+            return false;
+        }
+        least = at + 1;
+        next = sought.starts.next(act);
     }
     true
 }

@@ -15,9 +15,9 @@ ghost use Rattle.tp_placing.specs.LoadedBoard.{Stands};
 ghost use Rattle.tp_windows.specs.Halves.{AreLeft};
 ghost use Rattle.tp_windows.specs.KeptRows.{HaveOrders};
 ghost use Rattle.tp_windows.specs.Sides.{IsFit};
-ghost use Rattle.tp_windows.specs.Roots.{IsRoot};
+ghost use Rattle.tp_windows.specs.Roots.{IsRootBy};
 ghost use Rattle.tp_windows.specs.Walked.{IsWalked};
-ghost use Rattle.tp_windows.specs.Walks.{IsGoneOn, IsLaterTurn, IsTurned, halves_of, siblings};
+ghost use Rattle.tp_windows.specs.Walks.{IsGoneOn, IsSoonerTurn, IsTurned, halves_of, siblings};
 
 use crate::conflicts::Trial;
 use crate::edge_links::LinkedEdges;
@@ -26,13 +26,14 @@ use crate::kept_rows::KeptRows;
 use crate::pick::Pick;
 use crate::ranges::{Edges, Ranges, Side};
 use crate::rests::Rests;
-use crate::root::{Root, read_root};
+use crate::root::{Root, close_before, read_root};
 use crate::times::Spread;
 use crate::way::Labels;
 use std::alloc::{AllocError, Global};
 use tp_base::{Memory, Network, Tick};
 use tp_machine::Machine;
 use tp_placing::Board;
+use tp_routes::ActionIndex;
 use tp_schedule::Ask;
 
 /// All that a walk over halves of windows takes memory for.
@@ -82,7 +83,7 @@ fn go_back(path: &mut Vec<Side>) -> bool
 
 /// Goes on from a half that is closed.
 fn close(path: &mut Vec<Side>, end: Tick) -> Turned
-    ensures later { 0 < end → IsLaterTurn result }
+    ensures sooner { 0 < end → IsSoonerTurn end result }
     ensures gone { (machine : MachineValue) (plans : List Plan) (ask : AskValue)
         → AreLeft machine plans ask (siblings (halves_of (table_of plans) path.old.items)) (end - 1)
         → IsGoneOn machine plans ask path.new.items result }
@@ -96,7 +97,7 @@ fn close(path: &mut Vec<Side>, end: Tick) -> Turned
 
 /// Goes on to the high side of a half that is split.
 fn split(path: &mut Vec<Side>, side: Side, end: Tick) -> Turned
-    ensures later { 0 < end → IsLaterTurn result }
+    ensures sooner { 0 < end → IsSoonerTurn end result }
     ensures turned { (machine : MachineValue) (plans : List Plan) (ask : AskValue)
         → IsTurned machine plans ask path.old.items path.new.items end result }
 {
@@ -124,9 +125,10 @@ fn turn(
     ensures orders { (plans : List Plan) → HaveOrders machine.now plans node.old.rows.rows
         → HaveOrders machine.now plans node.new.rows.rows }
     ensures steps { steps.new ≤ steps.old }
-    ensures later { IsLaterTurn result }
-    ensures turned { (plans : List Plan) (net : Net) → IsKnownGoal machine.now ask.entry.now.goal
-        → IsRoot machine.now plans ask.entry.now net root.now
+    ensures sooner { IsSoonerTurn end result }
+    ensures turned { (plans : List Plan) (net : Net) (limit : ℕ) → end - 1 ≤ limit
+        → IsKnownGoal machine.now ask.entry.now.goal
+        → IsRootBy machine.now plans ask.entry.now net limit root.now
         → HaveOrders machine.now plans node.old.rows.rows
         → IsTurned machine.now plans ask.entry.now node.old.path.items node.new.path.items end
         result }
@@ -151,7 +153,7 @@ fn walk_from(
     requires fit { IsFit root.now.ranges root.now.edges }
     requires some { 0 < end }
     ensures { (plans : List Plan) (net : Net) → IsKnownGoal machine.now ask.entry.now.goal
-        → IsRoot machine.now plans ask.entry.now net root.now
+        → IsRootBy machine.now plans ask.entry.now net (end - 1) root.now
         → HaveOrders machine.now plans node.old.rows.rows → IsLegal machine.now plans
         → IsAsked machine.now plans ask.entry.now
         → IsWalked machine.now plans ask.entry.now result }
@@ -208,12 +210,18 @@ impl Windows {
         if end == 0 {
             return Walked::Ended { end };
         }
-        let left = self.node.trial.spread.left;
         if !self.read(board, machine, ask) {
             return Walked::GaveUp;
         }
-        charge(steps, left, self.node.trial.spread.left);
         let first = seek_still(&self.root, &mut self.node, machine, ask, end, steps);
+        let left = self.node.trial.spread.left;
+        close_before(
+            &mut self.root,
+            &mut self.node.trial.spread,
+            board.points(),
+            first,
+        );
+        charge(steps, left, self.node.trial.spread.left);
         walk_from(&self.root, &mut self.node, machine, ask, first, steps)
     }
 
@@ -223,13 +231,13 @@ impl Windows {
         requires asked { board.now.ask ≡ Some ask.now }
         requires closed { suffix_of board.now ≡ None }
         requires goal { IsKnownGoal machine.now ask.now.goal }
-        ensures root { IsTrue result → IsRoot machine.now board.now.plans ask.entry.now
-            (N.reading.net board.now.net) self.new.root }
+        ensures root { IsTrue result → (limit : ℕ)
+            → IsRootBy machine.now board.now.plans ask.entry.now
+            (N.reading.net board.now.net) limit self.new.root }
         ensures orders { IsTrue result
             → HaveOrders machine.now board.now.plans self.new.node.rows.rows }
     {
-        let spread = &mut self.node.trial.spread;
-        if !read_root(&mut self.root, board, machine, ask, spread) {
+        if !read_root(&mut self.root, board, machine, ask) {
             return false;
         }
         self.node.rows.read(board, machine)
@@ -242,10 +250,12 @@ fn new_root(alloc: Global, machine: &Machine, points: u32, edges: u32) -> Result
     let to = LinkedEdges::new(alloc, points, edges)?;
     let ranges = Ranges::new(alloc, points)?;
     let rests = Rests::new(alloc, machine)?;
+    let starts = ActionIndex::new(alloc, machine.locations.len())?;
     Ok(Root {
         edges: Edges { from, to },
         ranges,
         rests,
+        starts,
         ahead: None,
         behind: None,
     })

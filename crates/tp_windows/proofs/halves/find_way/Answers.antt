@@ -17,6 +17,7 @@ returns-clause-way c plans net known root orders =
     way_in _ c.way.result plans w c.way.ensures.way (record {
       goal = known;
       rests = root.rests;
+      starts = root.starts;
       rows = c.write.ensures.rows c.args.machine.now plans root.is_net.is_table orders;
       line = λ end fits. (behind end fits, ahead end fits);
     })

@@ -17,7 +17,7 @@ read_net-requires g c =
     record { points = c.points.ensures machine c.requires.stands ∙ sym (points_are machine ask.now board.plans (reading.net board.net) is) ∙ ap (λ n. length (reading.net n).lows) (sym c.net.ensures) }
 
 pub returns : goal.returns
-returns g c ok =
+returns g c ok limit =
     let reading = g.N.Network.reading in
     let board = c.args.board.now in
     let machine = c.args.machine.now in
@@ -26,11 +26,14 @@ returns g c ok =
     let points = c.points.ensures machine c.requires.stands in
     let net = c.net.ensures in
     record {
-      is_net = loaded_net reading board machine ask c.requires.stands c.requires.asked c.requires.closed;
-      wide = subst (λ n. AreWide n c.read_net.new.root.ranges) points (c.read_net.ensures.wide read);
-      edges = subst (λ n. HaveBoth n (reading.net board.net).edges c.read_net.new.root.edges) points (subst (λ n. HaveBoth c.points.result (reading.net n).edges c.read_net.new.root.edges) net (c.read_net.ensures.edges read));
-      between = λ y is. c.read_net.ensures.between read y (subst (λ n. IsSolution (reading.net n) y) (sym net) is);
-      rests = c.renew_rests.ensures ok;
-      ahead = subst (λ o. IfSome o (IsEndIn (is_ahead ask) board.plans)) (sym c.read_net.ensures.ahead) c.line_ends-ahead.ensures.ahead;
-      behind = subst (λ o. IfSome o (IsEndIn (is_behind ask) board.plans)) (sym c.read_net.ensures.behind) c.line_ends-ahead.ensures.behind;
+      read = record {
+        is_net = loaded_net reading board machine ask c.requires.stands c.requires.asked c.requires.closed;
+        wide = subst (λ n. AreWide n c.read_net.new.root.ranges) points (c.read_net.ensures.wide read);
+        edges = subst (λ n. HaveBoth n (reading.net board.net).edges c.read_net.new.root.edges) points (subst (λ n. HaveBoth c.points.result (reading.net n).edges c.read_net.new.root.edges) net (c.read_net.ensures.edges read));
+        rests = c.renew_rests.ensures ok;
+        starts = c.renew_starts.ensures c.if-not-renew_starts.false;
+        ahead = subst (λ o. IfSome o (IsEndIn (is_ahead ask) board.plans)) (sym c.read_net.ensures.ahead) c.line_ends-ahead.ensures.ahead;
+        behind = subst (λ o. IfSome o (IsEndIn (is_behind ask) board.plans)) (sym c.read_net.ensures.behind) c.line_ends-ahead.ensures.behind;
+      };
+      between = λ y is. c.read_net.ensures.between read y (subst (λ n. IsSolution (reading.net n) y) (sym net) is.solution);
     }
