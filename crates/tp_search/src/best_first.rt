@@ -221,18 +221,18 @@ fn step<N: Network>(
     None
 }
 
-/// How many lists more may be opened after one was, where there is a limit.
-fn one_less(left: Option<u32>) -> Option<u32>
-    ensures { left ≡ None → result ≡ None }
+/// Whether as many lists are stored as may be, where there is a limit.
+fn has_stored(store: &Store, most: Option<u32>) -> bool
+    ensures { IsTrue result → most ≢ None }
 {
-    match left {
-        Some(count) => Some(count.saturating_sub(1)),
-        None => None,
+    match most {
+        Some(most) => store.len() >= most,
+        None => false,
     }
 }
 
 /// Searches from these goals on, with the list that the board carries to begin with, if there is one. Where only so many lists
-/// may be opened and they do not suffice, the answer is `Again`.
+/// may be stored and they do not suffice, the answer is `Again`.
 pub(crate) fn search<N: Network>(
     goals: &mut Vec<OpenGoal>,
     store: &mut Store,
@@ -265,13 +265,11 @@ pub(crate) fn search<N: Network>(
 {
     let mut held = begun;
     let mut barred = None;
-    let mut left = most;
     'steps: loop {
-        if let Some(0) = left {
+        if has_stored(store, most) {
             take_off(board, held);
             return Outcome::Again;
         }
-        left = one_less(left);
         if let Some(outcome) = step(goals, store, board, problem, &mut held, &mut barred) {
             return outcome;
         }

@@ -38,8 +38,8 @@ use tp_windows::Windows;
 /// A search by windows is tried only where so many lists can be stored: a small budget is spent as by lists alone.
 const LEAST_NODES: u32 = 1_000;
 
-/// So many lists are opened before windows are tried.
-const FEW_LISTS: u32 = 8;
+/// So many lists are stored before windows are tried.
+const FEW_LISTS: u32 = 128;
 
 /// For so many points and edges of loaded plans there is room in the windows.
 const WINDOW_POINTS: u32 = 16_642;
@@ -224,7 +224,7 @@ impl Workspace {
         }
     }
 
-    /// Searches from the start on a board with no goal open, with this limit to begin with, and through so many lists at most, if
+    /// Searches from the start on a board with no goal open, with this limit to begin with, until so many lists are stored, if
     /// their number is limited. The table of rooms is that of the ask.
     fn search_to<N: Network>(
         &mut self,

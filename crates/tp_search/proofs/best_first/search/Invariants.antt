@@ -1,4 +1,4 @@
-use Rattle.std.proofs.Common.{◌≡◌, ℕ, None, IfSome}
+use Rattle.std.proofs.Common.{◌≡◌, ℕ, IfSome}
 use Rattle.tp_placing.specs.Boards.{BoardValue}
 use Rattle.tp_search.specs.Boards.{IsReady}
 use Rattle.tp_search.specs.HeldLists.{HoldsList, IsOver}
@@ -15,7 +15,6 @@ invariant-steps g l = record {
   searching : (bound : ℕ) × IsSearching l.problem.machine.now l.board.plans l.problem.ask.now l.goals.items l.store bound;
   same : IsSameSpace l.fn.goals l.goals l.fn.store l.store;
   limit : IsLimitKept l.fn.store.limit l.store.limit;
-  unlimited : l.fn.most ≡ None → l.left ≡ None;
 }
 
 abbrev pub decreases-steps : goal.decreases-steps
