@@ -13,10 +13,7 @@ use crate::problem::Problem;
 use tp_base::{Mark, Network, Undo};
 use tp_placing::{Board, marks_keep_boards};
 use tp_schedule::{Goal, Origin, finished};
-use tp_windows::{Walked, Windows};
-
-/// How many steps a search by windows may take.
-const WINDOW_STEPS: u32 = 200_000;
+use tp_windows::{Effort, Walked, Windows};
 
 /// Seeks an earliest plan of a new copy by windows, on a board without choices. The board carries the plan's list then, since the
 /// mark that is answered. Where it finds none, the board is as before, and there may be one all the same.
@@ -24,6 +21,7 @@ pub(crate) fn seek<N: Network>(
     windows: &mut Windows,
     board: &mut Board<N>,
     problem: Problem,
+    effort: Effort,
 ) -> Option<Mark>
     requires posed { IsPosed problem }
     requires kept { kept_of problem.ask.now ≤ most_acts }
@@ -43,9 +41,8 @@ pub(crate) fn seek<N: Network>(
     let Origin::Feeder = problem.ask.origin else {
         return None;
     };
-    let mut steps = WINDOW_STEPS;
     let beyond = (problem.ask.now + problem.machine.window).saturating_add(1);
-    let walked = windows.walk(board, problem.machine, problem.ask, beyond, &mut steps);
+    let walked = windows.walk(board, problem.machine, problem.ask, beyond, effort);
     let Walked::Ended { end } = walked else {
         return None;
     };

@@ -1,5 +1,6 @@
 //! The memory of a search, and the search for an ask on a loaded board.
 ghost use Rattle.std.specs.Prelude.{ℕ, ◌≡◌, ◌≢◌, ◌≤◌, [], pos, List, None, Some, IfErr, IfOk};
+ghost use Rattle.tp_schedule.specs.SpentBudget.{IsSpent};
 ghost use Rattle.tp_schedule.specs.declared.parts.Plan.{Plan};
 ghost use Rattle.tp_placing.specs.Boards.{past_of};
 ghost use Rattle.tp_placing.specs.LoadedBoard.{Stands};
@@ -33,13 +34,22 @@ use tp_machine::Machine;
 use tp_placing::{Board, boards_have_marks};
 use tp_routes::Rooms;
 use tp_schedule::Ask;
-use tp_windows::Windows;
+use tp_windows::{Effort, Windows};
 
 /// A search by windows is tried only where so many lists can be stored: a small budget is spent as by lists alone.
 const LEAST_NODES: u32 = 1_000;
 
 /// So many lists are stored before windows are tried.
 const FEW_LISTS: u32 = 128;
+
+/// A search by windows takes so many steps at most, and gives up where its first way ends more than so many ticks before the best one.
+const BRIEF: Effort = Effort {
+    steps: 200_000,
+    far: 16,
+};
+
+/// Where all lists are stored, a last search by windows takes so many steps for each of them, and gives up for no other reason.
+const STEPS_A_LIST: u32 = 20;
 
 /// For so many points and edges of loaded plans there is room in the windows.
 const WINDOW_POINTS: u32 = 16_642;
@@ -174,7 +184,7 @@ impl Workspace {
             return Outcome::Again;
         }
         match self.search_to(board, machine, ask, Limit::Sought, Some(FEW_LISTS)) {
-            Outcome::Again => self.search_windows(board, machine, ask),
+            Outcome::Again => self.search_windows(board, machine, ask, BRIEF),
             ended => ended,
         }
     }
@@ -185,6 +195,7 @@ impl Workspace {
         board: &mut Board<N>,
         machine: &Machine,
         ask: &Ask,
+        effort: Effort,
     ) -> Outcome
         requires can { CanSearch N.reading self.old board.old machine.now ask.now }
         ensures outcome { IsOutcome N.reading board.old board.new
@@ -199,14 +210,67 @@ impl Workspace {
         let Some(windows) = &mut self.windows else {
             return Outcome::Again;
         };
-        match seek(windows, board, problem) {
+        match seek(windows, board, problem, effort) {
             Some(base) => Outcome::Found { base },
             None => Outcome::Again,
         }
     }
 
-    /// Searches through as many lists as there can be: up to a limit first, and without one where that does not suffice.
+    /// How long a last search by windows may be.
+    fn last_effort(&self) -> Effort {
+        let lists = self.store.len().saturating_add(self.store.spare());
+        Effort {
+            steps: lists.saturating_mul(STEPS_A_LIST).max(BRIEF.steps),
+            far: Tick::MAX,
+        }
+    }
+
+    /// Searches through as many lists as there can be, and once more by windows where all of them are stored.
     fn search_whole<N: Network>(
+        &mut self,
+        board: &mut Board<N>,
+        machine: &Machine,
+        ask: &Ask,
+    ) -> Outcome
+        requires can { CanSearch N.reading self.old board.old machine.now ask.now }
+        ensures outcome { IsOutcome N.reading board.old board.new
+            machine.now ask.entry.now self.old.nodes result }
+        ensures whole { result ≢ Again }
+        ensures same { self.new ≡ self.old }
+    {
+        match self.search_lists(board, machine, ask) {
+            Outcome::Spent { bound } => self.search_last(board, machine, ask, bound),
+            ended => ended,
+        }
+    }
+
+    /// Searches by windows, where all lists are stored and no plan ends before the bound. `Spent` where they come to no end.
+    fn search_last<N: Network>(
+        &mut self,
+        board: &mut Board<N>,
+        machine: &Machine,
+        ask: &Ask,
+        bound: Tick,
+    ) -> Outcome
+        requires can { CanSearch N.reading self.old board.old machine.now ask.now }
+        requires spent { IsSpent machine.now board.old.plans ask.now self.old.nodes bound }
+        ensures outcome { IsOutcome N.reading board.old board.new
+            machine.now ask.entry.now self.old.nodes result }
+        ensures whole { result ≢ Again }
+        ensures same { self.new ≡ self.old }
+    {
+        if !self.has_windows() {
+            return Outcome::Spent { bound };
+        }
+        let effort = self.last_effort();
+        match self.search_windows(board, machine, ask, effort) {
+            Outcome::Again => Outcome::Spent { bound },
+            ended => ended,
+        }
+    }
+
+    /// Searches through as many lists as there can be: up to a limit first, and without one where that does not suffice.
+    fn search_lists<N: Network>(
         &mut self,
         board: &mut Board<N>,
         machine: &Machine,

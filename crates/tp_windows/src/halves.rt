@@ -22,10 +22,8 @@ use tp_base::{PointId, Tick};
 use tp_machine::Machine;
 use tp_schedule::Ask;
 
-/// So many ticks before the best way known the first way of a walk may end.
-const FAR: Tick = 16;
-
-/// Where a walk is: the sides of splits that lead to the half that is looked at, with the ranges and rows there.
+/// Where a walk is: the sides of splits that lead to the half that is looked at, with the ranges and rows there, and how many ticks
+/// before the best way known the first way may end.
 #[derive(Drop)]
 pub(crate) struct Node {
     pub(crate) path: Vec<Side>,
@@ -33,6 +31,7 @@ pub(crate) struct Node {
     pub(crate) rows: KeptRows,
     pub(crate) labels: Labels,
     pub(crate) trial: Trial,
+    pub(crate) far: Tick,
 }
 
 /// What a look at a half found: nothing ends there before the limit, or a way that fits ends at a tick, or it is to be split.
@@ -157,8 +156,8 @@ fn find_way(
 }
 
 /// Whether the first way of all ends so long before `end` that many halves are likely to wait.
-fn is_far(path: &[Side], from: Tick, end: Tick) -> bool {
-    path.is_empty() && end.saturating_sub(from) > FAR
+fn is_far(node: &Node, from: Tick, end: Tick) -> bool {
+    node.path.is_empty() && end.saturating_sub(from) > node.far
 }
 
 /// Seeks a way in the ranges of a half that ends before `end`.
@@ -187,7 +186,7 @@ fn seek(
         Way::Never => Looked::Closed,
         Way::GaveUp => Looked::GaveUp,
         Way::Found { label, end: from } => {
-            if is_far(&node.path, from, end) {
+            if is_far(node, from, end) {
                 return Looked::GaveUp;
             }
             let left = node.trial.spread.left;

@@ -32,7 +32,7 @@ pub use kept_rows::KeptRows;
 pub use pick::Pick;
 pub use span::{Span, begins_behind, ends_before, lasts};
 pub use times::Link;
-pub use windows::{Walked, Windows};
+pub use windows::{Effort, Walked, Windows};
 
 /// The kept plans may stand at the ticks of each list that ends by the limit, and windows that are relaxed along gaps lose none of them.
 pub fn windows_hold_answers()

@@ -43,6 +43,14 @@ pub struct Windows {
     node: Node,
 }
 
+/// How long a walk may be: it takes so many steps at most, and gives up where the first way ends more than so many ticks before the best
+/// one known.
+#[derive(Clone, Copy)]
+pub struct Effort {
+    pub steps: u32,
+    pub far: Tick,
+}
+
 /// How a walk ended: no alternative ends before the tick, or nothing is known.
 #[derive(Clone, Copy)]
 pub enum Walked {
@@ -197,7 +205,7 @@ impl Windows {
         machine: &Machine,
         ask: &Ask,
         end: Tick,
-        steps: &mut u32,
+        effort: Effort,
     ) -> Walked
         requires stands { Stands N.reading board.now machine.now }
         requires asked { board.now.ask ≡ Some ask.now }
@@ -205,6 +213,8 @@ impl Windows {
         requires can_put { CanPut machine.now board.now.plans ask.now }
         ensures none { IsWalked machine.now board.now.plans ask.entry.now result }
     {
+        let mut steps = effort.steps;
+        self.node.far = effort.far;
         self.node.trial.best.clear();
         self.node.trial.spread.left = steps.saturating_mul(4);
         if end == 0 {
@@ -213,7 +223,7 @@ impl Windows {
         if !self.read(board, machine, ask) {
             return Walked::GaveUp;
         }
-        let first = seek_still(&self.root, &mut self.node, machine, ask, end, steps);
+        let first = seek_still(&self.root, &mut self.node, machine, ask, end, &mut steps);
         let left = self.node.trial.spread.left;
         close_before(
             &mut self.root,
@@ -221,8 +231,15 @@ impl Windows {
             board.points(),
             first,
         );
-        charge(steps, left, self.node.trial.spread.left);
-        walk_from(&self.root, &mut self.node, machine, ask, first, steps)
+        charge(&mut steps, left, self.node.trial.spread.left);
+        walk_from(
+            &self.root,
+            &mut self.node,
+            machine,
+            ask,
+            first,
+            &mut steps,
+        )
     }
 
     /// Reads a board with no goal open, loaded for the ask. Answers false where there is no room.
@@ -287,5 +304,6 @@ fn new_node(alloc: Global, machine: &Machine, points: u32) -> Result<Node, Alloc
         rows,
         labels,
         trial,
+        far: 0,
     })
 }
