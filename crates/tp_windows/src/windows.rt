@@ -232,14 +232,7 @@ impl Windows {
             first,
         );
         charge(&mut steps, left, self.node.trial.spread.left);
-        walk_from(
-            &self.root,
-            &mut self.node,
-            machine,
-            ask,
-            first,
-            &mut steps,
-        )
+        walk_from(&self.root, &mut self.node, machine, ask, first, &mut steps)
     }
 
     /// Reads a board with no goal open, loaded for the ask. Answers false where there is no room.

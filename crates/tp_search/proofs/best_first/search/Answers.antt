@@ -9,7 +9,7 @@ use Rattle.tp_search.proofs.StoreFacts.{limit-itself, limit-trans}
 use Rattle.tp_search.proofs.best_first.search.Goals as goal
 
 pub steps-init : goal.steps-init
-steps-init g c = record { over = λ b ready over. over; holds = c.requires.holds; searching = c.requires.searching; same = search rules; limit = limit-itself c.args.store.now.limit; }
+steps-init g c = record { over = λ b ready over. over; holds = c.requires.holds; searching = c.requires.searching; same = search rules; limit = limit-itself c.args.store.now.limit }
 
 pub take_off-requires : goal.take_off-requires
 take_off-requires g c =
