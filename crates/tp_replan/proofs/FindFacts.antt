@@ -1,5 +1,5 @@
 -- The first one that passes.
-use Rattle.std.proofs.Common.{◌≡◌, ℕ, zero, suc, ◌+◌, ◌<◌, Bool, true, false, cond, List, [], ◌∷◌, ◌++◌, find, take, slice_get, Option, Some, None, refl, sym, ap, ◌∙◌}
+use Rattle.std.proofs.Common.{◌≡◌, ℕ, zero, suc, ◌+◌, Bool, true, false, cond, List, [], ◌∷◌, ◌++◌, find, take, slice_get, Option, Some, None, refl, sym, ap, ◌∙◌}
 use Rattle.tp_replan.proofs.FateFacts.{take-next}
 
 pub find-here : {X : Type 0} (test : X → Bool) (xs : List X) (i : ℕ) (x : X) → slice_get xs i ≡ Some x → true ≡ test x → find test (take i xs) ≡ None → find test xs ≡ Some x

@@ -20,6 +20,7 @@ pub mod PlannedLoose
 pub mod LoopFalls
 pub mod LoopSteps
 pub mod OutStarts
+pub mod LostFronts
 pub mod Shown
 pub mod LoopStart
 pub mod FindFacts

@@ -1,5 +1,5 @@
 -- Each answer leaves less of the loop's work.
-use Rattle.std.proofs.Common.{◌≡◌, ◌⊎◌, ℕ, ◌+◌, ◌*◌, ◌<◌, ◌≤◌, Bool, true, false, cond, not, ◌&&◌, ◌||◌, List, [], ◌∷◌, Contains, refl, sym, ap, ◌∙◌, arith, subst, count_by, inl, inr}
+use Rattle.std.proofs.Common.{◌≡◌, ℕ, ◌+◌, ◌≤◌, Bool, true, false, cond, not, ◌&&◌, List, [], ◌∷◌, Contains, refl, sym, ap, ◌∙◌, arith, subst, count_by, inl, inr}
 use Rattle.std.proofs.lemmas.List.Concat.{flat_map-cons}
 use Rattle.tp_machine.specs.declared.machine.Machine.{Machine}
 use Rattle.tp_schedule.specs.declared.parts.Plan.{Plan}

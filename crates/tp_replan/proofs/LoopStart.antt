@@ -18,8 +18,7 @@ use Rattle.tp_event_rules.specs.Labels.{job_name, job_name_in}
 use Rattle.tp_event_rules.specs.Ready.{KeepsLive, last_copy}
 use Rattle.tp_event_rules.specs.Seen.{HasNextCopy}
 use Rattle.tp_event_rules.specs.States.{SessionState}
-use Rattle.tp_outage_laws.specs.Through.{KeepsCopies}
-use Rattle.tp_replan.specs.LooseLoop.{CanBeginLoop, CanGoOut}
+use Rattle.tp_replan.specs.LooseLoop.{CanBeginLoop}
 use Rattle.tp_replan.proofs.OpenFacts.{count-cons}
 use Rattle.tp_schedule.specs.LivePlans.{is_live}
 
@@ -95,16 +94,10 @@ begins-loop machine s kept =
       goals = All-weaker (λ q. is_of_its_job s.jobs q ≡ true) (λ q. IsKnownGoal machine q.goal)
           (λ q of. known-goal machine s.jobs q kept.jobs.trays (of-job s.jobs q of)) s.plans kept.lines.plans_known;
       next_planned = All-weaker (λ q. q.sheet.copy ≤ last_copy) (λ q. HasNextCopy q.sheet) (λ q low. omega (arith, low)) s.plans kept.numbers.planned;
-      few_plans = let few = kept.plans.few_live in let all = count-each (is_live machine s.now) s.plans kept.live in omega arith;
+      few =
+          let few = kept.plans.few_live in
+          let open' = kept.plans.few_open in
+          let all = count-each (is_live machine s.now) s.plans kept.live in
+          omega arith;
       purges = kept.purges;
     }
-
--- what is kept of copies, where a module can go out
-pub copies-out : (machine : Machine) (s : SessionState) → CanGoOut machine s → KeepsCopies machine s
-copies-out machine s can = record {
-  plans = record { now_at_most = can.loop.now_at_most; legal = can.loop.plans.legal; floors = can.loop.plans.floors; horizon = can.loop.plans.horizon };
-  lines = can.loop.lines;
-  broken = can.broken;
-  older = can.older;
-  purges = can.loop.purges;
-}

@@ -1,5 +1,5 @@
 -- Where a module can go out, the loop can begin.
-use Rattle.std.proofs.Common.{◌≡◌, ℕ, ◌+◌, ◌<◌, ◌≤◌, Bool, true, false, cond, not, ◌&&◌, ◌||◌, ◌==◌, List, [], ◌∷◌, ◌++◌, length, map, filter, IsTrue, All, AllPairs, Contains, refl, ap, ◌∙◌, arith, subst, count_by, inl, inr}
+use Rattle.std.proofs.Common.{◌≡◌, ℕ, ◌+◌, ◌≤◌, Bool, true, false, cond, not, ◌&&◌, ◌||◌, List, [], ◌∷◌, length, map, filter, IsTrue, All, AllPairs, Contains, refl, ap, ◌∙◌, arith, subst, count_by, inl, inr}
 use Rattle.std.specs.Prelude.{IsFalse}
 use Rattle.std.specs.List.{list_any}
 use Rattle.std.specs.Str.{bytes_eq}
@@ -146,8 +146,7 @@ can-begin machine s can = record {
         let trays = length-map (tray_plans s.plans) (λ p. p.sheet) in
         let filtered = length-filter is_tray_plan s.plans in
         let fewer = count_by-le-length is_tray_plan s.plans in
-        let open' = can.plans.few_open in
-        let live = can.few_plans in
+        let few = can.few in
         omega arith
 
   begin-few : (g : Group) → open_count g s [] ≤ most_in g

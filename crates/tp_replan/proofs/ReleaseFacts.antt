@@ -1,5 +1,5 @@
 -- What is reported of releases, one by one; and the place of a copy's plan.
-use Rattle.std.proofs.Common.{◌≡◌, ℕ, ◌+◌, ◌<◌, ◌≤◌, ◌&&◌, List, [], ◌∷◌, ◌++◌, length, get_or, slice_get, position, Option, Some, None, IsSome, refl, sym, ◌∙◌}
+use Rattle.std.proofs.Common.{◌≡◌, ℕ, ◌<◌, List, length, get_or, slice_get, position, Option, Some, None, IsSome, refl, sym, ◌∙◌}
 use Rattle.std.proofs.lemmas.Option.{get_or_from_slice_get, slice_get-get_or}
 use Rattle.tp_schedule.specs.Plans.{is_same_copy, plan_of}
 use Rattle.tp_schedule.specs.declared.parts.Plan.{Plan}

@@ -14,7 +14,7 @@ use Rattle.tp_schedule.specs.declared.records.Record.TheVariants.{Release}
 use Rattle.tp_schedule.specs.declared.records.SheetName.{SheetName}
 use Rattle.tp_event_rules.specs.Clock.{record_of, release_of}
 use Rattle.tp_event_rules.specs.Labels.{action_name, label}
-use Rattle.tp_event_rules.specs.Moments.{is_recalled, recalled}
+use Rattle.tp_event_rules.specs.Moments.{is_recalled}
 use Rattle.tp_event_rules.proofs.CutPlans.{length-runs_from}
 use Rattle.tp_replan.proofs.DueRuns.{due-takes, due_below, run_at, runs_from-at}
 use Rattle.tp_replan.proofs.FateFacts.{kept-more}

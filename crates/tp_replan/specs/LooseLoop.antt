@@ -1,5 +1,5 @@
 -- What the loop over loose copies needs of the state, and keeps.
-use Rattle.std.specs.Prelude.{◌≡◌, ℕ, ◌<◌, ◌≤◌, Bool, not, ◌&&◌, List, [], length, count_by, All, Contains, IsTrue}
+use Rattle.std.specs.Prelude.{◌≡◌, ℕ, ◌+◌, ◌<◌, ◌≤◌, Bool, not, ◌&&◌, List, [], length, count_by, All, Contains, IsTrue}
 use Rattle.std.specs.List.{list_any}
 use Rattle.tp_machine.specs.declared.machine.Machine.{Machine}
 use Rattle.tp_schedule.specs.Limits.{most_live}
@@ -10,13 +10,12 @@ use Rattle.tp_schedule.specs.declared.parts.Plan.{Plan}
 use Rattle.tp_schedule.specs.declared.parts.SheetId.{SheetId}
 use Rattle.tp_schedule.specs.declared.records.Record.{Record}
 use Rattle.tp_event_rules.specs.FallBacks.{is_copy}
-use Rattle.tp_event_rules.specs.StateInvariants.{IsOlder, KeepsLines, KeepsPlans, open_copies}
+use Rattle.tp_event_rules.specs.StateInvariants.{KeepsLines, KeepsPlans}
 use Rattle.tp_event_rules.specs.Loops.{is_loose}
 use Rattle.tp_event_rules.specs.Moments.{is_to_tray}
 use Rattle.tp_event_rules.specs.Seen.{HasNextCopy, HasStarted}
 use Rattle.tp_event_rules.specs.States.{SessionState}
-use Rattle.tp_event_rules.specs.Ready.{KeepsBroken}
-use Rattle.tp_replan.specs.Open.{CanFall}
+use Rattle.tp_replan.specs.Open.{CanFall, most_waiting}
 
 -- all actions of the plan have started, and the last one is running
 pub record IsUnderWay (now : ℕ) (p : Plan) : Type 0 where
@@ -57,8 +56,8 @@ abbrev pub loose_left : SessionState → ℕ
 loose_left s = count_by (is_loose s) s.plans
 
 -- the state before a module goes out, as far as the loop needs it: what is kept between events of the schedule and of what
--- waits, plans with known goals and the names of their jobs, copies that can have a next one, not too many plans, and purges
--- under way
+-- waits, plans with known goals and the names of their jobs, copies that can have a next one, so few copies that one more can
+-- wait, and purges under way
 pub record CanBeginLoop (machine : Machine) (s : SessionState) : Type 0 where
   pub now_at_most : s.now ≤ last_tick
   pub plans : KeepsPlans machine s
@@ -66,15 +65,8 @@ pub record CanBeginLoop (machine : Machine) (s : SessionState) : Type 0 where
   pub named : AreNamed s.plans
   pub goals : All (λ p. IsKnownGoal machine p.goal) s.plans
   pub next_planned : All (λ p. HasNextCopy p.sheet) s.plans
-  pub few_plans : length s.plans ≤ most_live
+  pub few : length s.waiting + length s.plans ≤ most_waiting
   pub purges : All (HasStarted s.now) s.plans
-
--- where the lost copies are told by the fronts before and after: what the loop needs, no copy of a broken job is still on its way, and
--- no planned copy is older than an open one of its sheet
-pub record CanGoOut (machine : Machine) (s : SessionState) : Type 0 where
-  pub loop : CanBeginLoop machine s
-  pub broken : KeepsBroken s
-  pub older : All (λ p. All (IsOlder p) (open_copies s)) s.plans
 
 -- the notes stay, and what else holds
 pub record Stays (notes notes' : List Record) (P : Type 0) : Type 0 where

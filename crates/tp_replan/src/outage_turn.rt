@@ -8,7 +8,7 @@ ghost use Rattle.tp_event_rules.specs.Planners.{right_steps};
 ghost use Rattle.tp_event_rules.specs.Ready.{CanTakeEvents, KeepsLive};
 ghost use Rattle.tp_event_rules.specs.Seen.{fronts_of, state_seen};
 ghost use Rattle.tp_replan.specs.Answered.{NotesOut, NotesStoppedOut};
-ghost use Rattle.tp_replan.specs.LooseLoop.{CanBeginLoop, CanGoOut};
+ghost use Rattle.tp_replan.specs.LooseLoop.{CanBeginLoop};
 
 use crate::loose_loop::{run_loop, settle};
 use crate::module_out::take_out;
@@ -122,7 +122,8 @@ pub fn handle_out<P: Planner>(
 ) -> Result<(), Halt>
     requires served { P.serves planner.old machine.now }
     requires there { id.0 < length machine.now.modules }
-    requires can { CanGoOut machine.now (state_seen now schedule.old.plans lines.old outs.old) }
+    requires can { CanBeginLoop machine.now
+        (state_seen now schedule.old.plans lines.old outs.old) }
     ensures out { OnOk result
         (NotesOut (right_steps P.rules machine.now) machine.now
         (record { «module» = id; jammed = jammed })

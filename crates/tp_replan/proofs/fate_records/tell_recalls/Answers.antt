@@ -1,5 +1,5 @@
 -- The action at the place is recalled, or is not.
-use Rattle.std.proofs.Common.{◌≡◌, ◌≤◌, ◌<◌, ◌+◌, ◌++◌, ◌∷◌, ◌∙◌, [], ap, arith, filter, get_or, map}
+use Rattle.std.proofs.Common.{◌≤◌, ◌<◌, ◌+◌, ◌++◌, ◌∷◌, ◌∙◌, [], ap, arith, filter, get_or, map}
 use Rattle.std.proofs.lemmas.Option.{get_or_from_slice_get, slice_get-get_or}
 use Rattle.tp_machine.specs.declared.parts.ActId.{ActId}
 use Rattle.tp_schedule.specs.Holders.{Run, runs_of}

@@ -1,5 +1,5 @@
 -- The copies that waited are taken, and no copy waits after the fates of the break.
-use Rattle.std.proofs.Common.{◌≡◌, ◌<◌, ◌++◌, ◌∷◌, ◌∙◌, [], All, AllPairs, ap, arith, sym, append_assoc, length, map, subst}
+use Rattle.std.proofs.Common.{◌<◌, ◌++◌, ◌∷◌, ◌∙◌, [], All, AllPairs, ap, arith, sym, append_assoc, length, map, subst}
 use Rattle.tp_jobs.specs.Backlogs.{Backlog}
 use Rattle.tp_schedule.specs.declared.parts.SheetId.{SheetId}
 use Rattle.tp_schedule.specs.declared.records.Record.TheVariants.{Broken}

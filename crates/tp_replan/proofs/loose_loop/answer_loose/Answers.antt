@@ -1,5 +1,5 @@
 -- The ask that is due can be put, and what follows it is reported and done.
-use Rattle.std.proofs.Common.{◌≡◌, [], IsSomeAnd, sym, subst}
+use Rattle.std.proofs.Common.{[], IsSomeAnd, sym, subst}
 use Rattle.tp_schedule.specs.Plans.{IsTimedPlan, plan_of}
 use Rattle.tp_schedule.specs.PlannerAnswers.{IsAnswer}
 use Rattle.tp_schedule.specs.declared.parts.Plan.{Plan}

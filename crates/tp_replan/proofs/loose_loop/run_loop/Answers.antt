@@ -1,5 +1,5 @@
 -- Each answer leads on, and less of the work is left.
-use Rattle.std.proofs.Common.{rules, ◌≡◌, ◌+◌, ◌≤◌, arith, sym, ◌∙◌, subst}
+use Rattle.std.proofs.Common.{rules, ◌+◌, arith, sym, ◌∙◌, subst}
 use Rattle.tp_event_rules.specs.LiveStates.{seen}
 use Rattle.tp_event_rules.specs.Loops.{due_by}
 use Rattle.tp_event_rules.specs.Planners.{right_steps}

@@ -1,5 +1,5 @@
 -- The last action of a plan in time is the machine's.
-use Rattle.std.proofs.Common.{◌≡◌, ◌+◌, ◌-◌, IsSomeAnd, arith, ap, sym, subst, ◌∙◌}
+use Rattle.std.proofs.Common.{◌-◌, IsSomeAnd, arith, ap, sym, subst, ◌∙◌}
 use Rattle.tp_base.proofs.SliceFacts.{All-at}
 use Rattle.tp_machine.specs.ModuleUse.{action_at}
 use Rattle.tp_schedule.specs.Answers.{acts_in}
