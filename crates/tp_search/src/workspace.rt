@@ -42,7 +42,7 @@ const LEAST_NODES: u32 = 1_000;
 /// So many lists are stored before windows are tried.
 const FEW_LISTS: u32 = 64;
 
-/// A search by windows takes so many steps at most, and gives up where its first way ends more than so many ticks before the best one.
+/// A search by windows takes so many steps at most, and few where its first way ends more than so many ticks before the best one.
 const BRIEF: Effort = Effort {
     steps: 200_000,
     far: 16,

@@ -155,9 +155,21 @@ fn find_way(
     node.labels.way(sought, steps)
 }
 
+/// So many steps are left where the first way of all ends far before the best one known.
+const FAR_STEPS: u32 = 10_000;
+
 /// Whether the first way of all ends so long before `end` that many halves are likely to wait.
 fn is_far(node: &Node, from: Tick, end: Tick) -> bool {
     node.path.is_empty() && end.saturating_sub(from) > node.far
+}
+
+/// Leaves few steps where many halves are likely to wait.
+fn leave_few(steps: &mut u32, is_far: bool)
+    ensures { steps.new ≤ steps.old }
+{
+    if is_far {
+        *steps = (*steps).min(FAR_STEPS);
+    }
 }
 
 /// Seeks a way in the ranges of a half that ends before `end`.
@@ -186,9 +198,7 @@ fn seek(
         Way::Never => Looked::Closed,
         Way::GaveUp => Looked::GaveUp,
         Way::Found { label, end: from } => {
-            if is_far(node, from, end) {
-                return Looked::GaveUp;
-            }
+            leave_few(steps, is_far(node, from, end));
             let left = node.trial.spread.left;
             let judged = try_way(root, node, machine, label);
             charge(steps, left, node.trial.spread.left);

@@ -43,7 +43,7 @@ pub struct Windows {
     node: Node,
 }
 
-/// How long a walk may be: it takes so many steps at most, and gives up where the first way ends more than so many ticks before the best
+/// How long a walk may be: it takes so many steps at most, and few more once the first way ends more than so many ticks before the best
 /// one known.
 #[derive(Clone, Copy)]
 pub struct Effort {
