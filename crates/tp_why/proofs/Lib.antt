@@ -1,0 +1,4 @@
+pub mod Found
+pub mod Clear
+pub mod RuleLaw
+pub mod Told
