@@ -59,6 +59,10 @@ def change_value(random, table, owner, key):
 
 def change(random, table, found):
     """Changes the table at one of the places found."""
+    if random.random() < 0.03:
+        # Keys that most texts leave out.
+        table[random.choice(["lead", "window", "budget", "gaps", "stock"])] = random.choice(VALUES)
+        return
     owner, key = random.choice(found)
     kind = random.randrange(5)
     if kind == 0:
@@ -75,4 +79,4 @@ def change(random, table, found):
 def change_bytes(random, text):
     """The text with a byte less, more or another."""
     at = random.randrange(len(text))
-    return text[:at] + random.choice(["", "=", "[", "\"", "#", "\n", "é"]) + text[at + random.randrange(2):]
+    return text[:at] + random.choice(["", "=", "[", "\"", "#", "'", "é"]) + text[at + random.randrange(2):]
