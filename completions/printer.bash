@@ -13,7 +13,7 @@ _printer() {
 _chart() {
     local word=${COMP_WORDS[COMP_CWORD]}
     case $word in
-    -*) COMPREPLY=($(compgen -W '--sheets --at' -- "$word")) ;;
+    -*) COMPREPLY=($(compgen -W '--sheets --from --at' -- "$word")) ;;
     *) COMPREPLY=($(compgen -f -X '!*.toml' -- "$word")) ;;
     esac
 }

@@ -5,10 +5,11 @@ import xml.etree.ElementTree as ElementTree
 from told import Bar
 
 SVG = "{http://www.w3.org/2000/svg}"
-GROUP = re.compile(r"translate\((\d+),(\d+)\) scale\((\d+)\.(\d{6}),(\d+)\) translate\((-?\d+),0\)")
+GROUP = re.compile(r"scale\((\d+)\.(\d{6}),(\d+)\) translate\((-?\d+),0\)")
 SHAPE = re.compile(r"M(-?\d+) (\d+)\.15H(-?\d+)V(\d+)\.85H(-?\d+)z")
 MARK = re.compile(r"M(\d+) (\d+)l6 6-6 6-6-6z")
 LINE = re.compile(r"M(\d+) \d+V\d+")
+TITLE = re.compile(r"The schedule at (\d+)(?:, from (\d+) on)?")
 BAR_CLASS = re.compile(r"([jp])([0-7])")
 
 
@@ -17,9 +18,10 @@ class Picture:
 
     def __init__(self, data):
         self.top = ElementTree.fromstring(data)
-        (self.group,) = self.top.findall(f"{SVG}g")
-        left, above, whole, part, height, back = map(int, matched(GROUP, self.group.get("transform")).groups())
-        self.left, self.above, self.height, self.first = left, above, height, -back
+        (inner,) = self.top.findall(f"{SVG}svg")
+        (self.group,) = inner.findall(f"{SVG}g")
+        whole, part, self.height, back = map(int, matched(GROUP, self.group.get("transform")).groups())
+        self.left, self.above, self.width, self.first = int(inner.get("x")), int(inner.get("y")), int(inner.get("width")), -back
         self.scale = whole * 1_000_000 + part
 
     def x(self, tick):
@@ -30,11 +32,13 @@ class Picture:
         return (y - self.above) // self.height
 
     def moment(self):
-        return int(matched(re.compile(r"The schedule at (\d+)"), self.top.find(f"{SVG}title").text)[1])
+        """The moment, and the first tick if the picture does not show all."""
+        now, first = matched(TITLE, self.top.find(f"{SVG}title").text).groups()
+        return int(now), int(first) if first else None
 
-    def labels(self):
-        """The names of the rows."""
-        return [it.text for it in self.top.findall(f"{SVG}text") if it.get("class") == "ink" and it.get("text-anchor") == "end"]
+    def labels(self, anchor):
+        """The names of the rows at one end."""
+        return [it.text for it in self.top.findall(f"{SVG}text") if it.get("class") == "ink" and it.get("text-anchor") == anchor]
 
     def bars(self):
         found = []

@@ -6,6 +6,8 @@ from log import read_log
 
 CLOCK_END = 1_000_000_000
 COLOURS = 8
+# So many ticks are drawn, if nothing else is asked for.
+MOST_TICKS = 5000
 
 
 class Bar(NamedTuple):
@@ -105,35 +107,44 @@ def schedule_of(log, until=None):
 
 
 class Wanted:
-    """The parts of the picture of a schedule on a machine. With `by_copies` each copy has a row, else each resource and tray."""
+    """The parts of the picture of a schedule on a machine, from a tick on. With `by_copies` each copy has a row, else each resource and tray."""
 
-    def __init__(self, machine, schedule, by_copies):
+    def __init__(self, machine, schedule, by_copies, first):
         self.machine, self.schedule, self.by_copies = machine, schedule, by_copies
-        self.jobs = list(dict.fromkeys(it.split(".")[0] for it in schedule.ways))
+        last = max((tick for way in schedule.ways.values() for tick in way.points), default=0)
+        self.first = first if first is not None or last <= MOST_TICKS else last - MOST_TICKS
+        self.ways = [it for it in schedule.ways.values() if self.first is None or any(tick > self.first for tick in it.points)]
+        named = [it.copy for it in self.ways] + [bar.title for way in schedule.ways.values() for bar in self.bars_of(way, 0, ["?"])]
+        self.jobs = list(dict.fromkeys(it.split(".")[0] for it in named))
 
     def labels(self):
         if self.by_copies:
-            return list(self.schedule.ways)
+            return [it.copy for it in self.ways]
         return [*self.machine.resources, *(f"tray {it}" for it in self.machine.trays), *(f"purge {it}" for it in self.machine.purge)]
 
     def bars(self):
-        return [bar for row, way in enumerate(self.schedule.ways.values()) for bar in self.bars_of(way, row)]
+        row_of = {way.copy: row for row, way in enumerate(self.ways)}
+        return [bar for way in self.schedule.ways.values() for bar in self.bars_of(way, row_of.get(way.copy, 0), self.jobs)]
 
-    def bars_of(self, way, row):
+    def bars_of(self, way, row, jobs):
+        """The bars of a way that end behind the first tick."""
         rows = list(self.machine.resources)
         for at, name in enumerate(way.actions):
             start, end = way.points[at], way.points[at + 1]
             action = self.machine.action_named.get(name)
             spans = [(row, start, end)] if self.by_copies else [(rows.index(it.resource), *it.span(start, end)) for it in (action.holds if action else ())]
             for on, first, last in spans:
-                colour = self.jobs.index(way.copy.split(".")[0]) % COLOURS
+                if self.first is not None and last <= self.first:
+                    continue
+                job = way.copy.split(".")[0]
+                colour = jobs.index(job) % COLOURS if job in jobs else 0
                 yield Bar(on, first, last, f"{way.copy} {name} {first} to {last}", colour, at < way.released, way.is_lost)
 
     def deliveries(self):
         """The row, the tick and the title of each mark."""
         labels = self.labels()
-        for row, way in enumerate(self.schedule.ways.values()):
-            if way.done is not None:
+        for row, way in enumerate(self.ways):
+            if way.done is not None and (self.first is None or way.done >= self.first):
                 kind = "tray" if way.place in self.machine.trays else "purge"
                 on = row if self.by_copies else labels.index(f"{kind} {way.place}")
                 yield on, way.done, f"{way.copy} in {way.place} at {way.done}"

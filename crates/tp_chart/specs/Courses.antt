@@ -4,6 +4,7 @@ use Rattle.std.specs.Str.{bytes_eq}
 use Rattle.tp_schedule.specs.declared.records.Record.{Record}
 use Rattle.tp_schedule.specs.declared.records.Record.TheVariants.{Plan, Move, Release, Done, Lost, Recall, Cut, Purge}
 use Rattle.tp_schedule.specs.declared.records.SheetName.{SheetName}
+use Rattle.tp_chart.specs.declared.copy_key.CopyKey.{CopyKey}
 
 -- action i runs from point i - 1 to point i; the first `released` actions are released; `done` is when the copy was
 -- delivered
@@ -17,7 +18,11 @@ pub record Way : Type 0 where
   pub done : Option ℕ
 
 abbrev pub is_same_copy : SheetName → SheetName → Bool
-is_same_copy a b = (a.number == b.number) && (a.copy == b.copy) && bytes_eq a.job b.job
+is_same_copy a b = bytes_eq b.job a.job && ((b.number == a.number) && (b.copy == a.copy))
+
+-- what a copy is looked up by
+abbrev pub key_of : SheetName → CopyKey
+key_of sheet = record { job = sheet.job; number = sheet.number; copy = sheet.copy }
 
 -- the way of a plan
 abbrev pub fresh : SheetName → List ℕ → List ℕ → List (List ℕ) → Way

@@ -6,11 +6,12 @@ use Rattle.tp_machine.specs.declared.machine.Machine.{Machine}
 use Rattle.tp_machine_text.specs.Texts.{IsMachineText}
 use Rattle.tp_log.specs.declared.item.Item.{Item}
 use Rattle.tp_log.specs.Logs.{IsLog, log_text}
-use Rattle.tp_chart.specs.Bars.{bars_from}
+use Rattle.tp_chart.specs.Bars.{bars_seen}
 use Rattle.tp_chart.specs.Pictures.{Draws}
 use Rattle.tp_chart.specs.Scenes.{sight_of}
 use Rattle.tp_chart.specs.Words.{Asked, chart_asked}
 use Rattle.tp_chart.specs.declared.chart_status.LongText.TheVariants as size
+use Rattle.tp_chart.specs.declared.view.View.{View}
 use Rattle.tp_chart.specs.declared.chart_status.ChartStatus.{ChartStatus}
 use Rattle.tp_chart.specs.declared.chart_status.ChartStatus.TheVariants as status
 
@@ -32,12 +33,12 @@ abbrev pub IsLongText : Option Files → List ℕ → Type 0
 IsLongText known name = IfSome known (λ files. IsSomeAnd (file_at files name) (λ text. most_text < length text))
 
 -- the source gave a log, and the sink took a picture: its bars are those of the log's schedule on the machine, at the moment
-pub record Shows (machine : Machine) (by_copies : Bool) (until : Option ℕ) (left taken taken' : Option (List ℕ)) : Type 0 where
+pub record Shows (machine : Machine) (view : View) (left taken taken' : Option (List ℕ)) : Type 0 where
   pub items : List Item
   pub is_log : IsLog items
   pub read : IfSome left (λ bytes. bytes ≡ log_text items)
   pub text : List ℕ
-  pub draws : Draws (bars_from by_copies machine 0 (sight_of machine until items).courses) text
+  pub draws : Draws (bars_seen view machine (sight_of machine view.until items).courses) text
   pub written : IfSome taken (λ before. taken' ≡ Some (before ++ text))
 
 module _ (words : List (List ℕ)) (known : Option Files) where
@@ -56,7 +57,7 @@ module _ (words : List (List ℕ)) (known : Option Files) where
     pub named : chart_asked words ≡ Some asked
     pub machine : Machine
     pub text : IsShelved known asked.machine (λ text. IsMachineText text machine)
-    pub shows : Shows machine asked.by_copies asked.until left taken taken'
+    pub shows : Shows machine asked.view left taken taken'
 
 -- the machine text can't be read, or is none
 abbrev pub is_of_machine : ChartStatus → Bool

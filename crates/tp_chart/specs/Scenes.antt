@@ -1,5 +1,5 @@
 -- The schedule that a log tells up to a moment: the ways of its copies, and the times in which modules were out.
-use Rattle.std.specs.Prelude.{ℕ, Bool, false, not, ◌&&◌, ◌==◌, nat_le, nat_lt, List, [], ◌∷◌, ◌++◌, map, filter, position, Option, Some, None, is_none, if◌then◌else◌}
+use Rattle.std.specs.Prelude.{ℕ, Bool, false, ◌&&◌, ◌==◌, nat_le, nat_lt, List, [], ◌∷◌, ◌++◌, map, position, Option, Some, None, is_none, if◌then◌else◌}
 use Rattle.std.specs.List.{list_any}
 use Rattle.std.specs.Str.{bytes_eq}
 use Rattle.tp_machine.specs.declared.machine.Machine.{Machine}
@@ -66,8 +66,10 @@ abbrev pub planned : SheetName → (Way → Way) → Way → List Way → List W
 planned copy f new [] = new ∷ []
 planned copy f new (w ∷ ways) = if is_same_copy w.sheet copy then f w ∷ ways else (w ∷ planned copy f new ways)
 
+-- the ways without that of the copy
 abbrev pub without : SheetName → List Way → List Way
-without copy ways = filter (λ w. not (is_same_copy w.sheet copy)) ways
+without copy [] = []
+without copy (w ∷ ways) = if is_same_copy w.sheet copy then ways else (w ∷ without copy ways)
 
 abbrev pub with_changed : SheetName → Record → Sight → Sight
 with_changed copy told s = record s { courses = changed copy (tell_course s.moment told) s.courses }

@@ -25,7 +25,7 @@ fault_line (fault.Rule n) = codes "rule " ++ decimal n
 abbrev pub status_line : ChartStatus → List ℕ
 status_line status.Done = codes ""
 status_line status.Memory = codes "chart: out of memory"
-status_line status.Usage = codes "chart: usage: chart [--sheets] [--at T] MACHINE"
+status_line status.Usage = codes "chart: usage: chart [--sheets] [--from T] [--at T] MACHINE"
 status_line (status.Machine f) = codes "chart: machine: " ++ fault_line f
 status_line status.Shelf = codes "chart: cannot read the machine text"
 status_line status.Source = codes "chart: cannot read the input"

@@ -1,4 +1,4 @@
--- The form of the words: [--sheets] [--at T] MACHINE, as the library of command lines reads them.
+-- The form of the words: [--sheets] [--from T] [--at T] MACHINE, as the library of command lines reads them.
 use Rattle.std.specs.Prelude.{ℕ, Bool, true, false, ◌==◌, nat_le, List, [], ◌∷◌, length, codes, find, Option, Some, None, option_map, map, if◌then◌else◌}
 use Rattle.std.specs.Str.{bytes_eq}
 use Rattle.std.specs.Borrow.{Bor}
@@ -6,9 +6,10 @@ use Rattle.clap.specs.Words.{App, Kinds, Row, Rule, Text, fault_of, matches_of, 
 use Rattle.clap.specs.Simple.{on_top}
 use Rattle.clap.specs.declared.builder.action.ArgAction.TheVariants.{Append}
 use Rattle.tp_words.specs.Numbers.{number_of}
+use Rattle.tp_chart.specs.declared.view.View.{View}
 use Rattle.tp_chart.specs.declared.words.ChartRequest as code
 
--- ---- the command: words, a flag `--sheets`, and an option `--at` with a value
+-- ---- the command: words, a flag `--sheets`, and options `--from` and `--at` with a value
 
 abbrev pub words_rule : Rule
 words_rule = record (new_rule (codes "words")) { action = Some Append }
@@ -21,8 +22,9 @@ sheets_rule = record (new_rule (codes "sheets")) {
   missing = codes "set" ∷ [];
 }
 
-abbrev pub at_rule : Rule
-at_rule = record (new_rule (codes "at")) { long = Some (codes "at"); action = Some Append }
+-- an option with a value
+abbrev pub option_rule : Text → Rule
+option_rule id = record (new_rule id) { long = Some id; action = Some Append }
 
 abbrev pub bare : App
 bare = on_top (λ s. record s { no_binary_name = true; disable_help_flag = true }) (new_app (codes "chart"))
@@ -33,27 +35,33 @@ with_words = with_rule bare words_rule
 abbrev pub with_flag : App
 with_flag = with_rule with_words sheets_rule
 
+abbrev pub with_from : App
+with_from = with_rule with_flag (option_rule (codes "from"))
+
 abbrev pub chart : App
-chart = with_rule with_flag at_rule
+chart = with_rule with_from (option_rule (codes "at"))
 
 -- ---- what the words ask for
 
 pub record Asked : Type 0 where
   pub machine : List ℕ
-  pub by_copies : Bool
-  pub until : Option ℕ
+  pub view : View
 
--- at most one moment is given: a number below 2 ^ 32 without leading zeros
-abbrev pub moment_of : List Text → Option (Option ℕ)
-moment_of [] = Some None
-moment_of (text ∷ []) = option_map (λ moment. Some moment) (number_of text)
-moment_of _ = None
+-- at most one tick is given: a number below 2 ^ 32 without leading zeros
+abbrev pub tick_of : List Text → Option (Option ℕ)
+tick_of [] = Some None
+tick_of (text ∷ []) = option_map (λ tick. Some tick) (number_of text)
+tick_of _ = None
 
--- exactly one word is no option, and the flag stands at most once
-abbrev pub asked_at : List Text → ℕ → List Text → Option Asked
-asked_at (machine ∷ []) sheets moments =
-    if nat_le sheets 1 then option_map (λ until. record { machine = machine; by_copies = sheets == 1; until = until }) (moment_of moments) else None
-asked_at _ sheets moments = None
+-- the flag stands at most once
+abbrev pub view_of : ℕ → Option (Option ℕ) → Option (Option ℕ) → Option View
+view_of sheets (Some from) (Some until) = if nat_le sheets 1 then Some (record { by_copies = sheets == 1; from = from; until = until }) else None
+view_of sheets _ _ = None
+
+-- exactly one word is no option
+abbrev pub asked_at : List Text → Option View → Option Asked
+asked_at (machine ∷ []) view = option_map (λ view. record { machine = machine; view = view }) view
+asked_at _ view = None
 
 -- the values of an id, if it has a row
 abbrev pub values_in : Text → List Row → Option (List Text)
@@ -63,8 +71,14 @@ abbrev pub values_or_none : Option (List Text) → List Text
 values_or_none None = []
 values_or_none (Some values) = values
 
+abbrev pub values_of : Text → List Row → List Text
+values_of id rows = values_or_none (values_in id rows)
+
+abbrev pub view_in : List Row → Option View
+view_in rows = view_of (length (values_of (codes "sheets") rows)) (tick_of (values_of (codes "from") rows)) (tick_of (values_of (codes "at") rows))
+
 abbrev pub asked_in : List Row → Option Asked
-asked_in rows = asked_at (values_or_none (values_in (codes "words") rows)) (length (values_or_none (values_in (codes "sheets") rows))) (values_or_none (values_in (codes "at") rows))
+asked_in rows = asked_at (values_of (codes "words") rows) (view_in rows)
 
 abbrev pub is_none : Kinds → Bool
 is_none [] = true
@@ -76,7 +90,7 @@ chart_asked words = if is_none (fault_of chart words) then asked_in (matches_of 
 
 -- a request as its texts and numbers
 abbrev pub seen : code.ChartRequest → Asked
-seen r = record { machine = r.machine.now; by_copies = r.by_copies; until = r.until }
+seen r = record { machine = r.machine.now; view = r.view }
 
 -- what references to texts point to
 abbrev pub shown : List (Bor Text) → List Text

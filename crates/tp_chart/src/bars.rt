@@ -1,11 +1,12 @@
 //! The bars of a picture.
-ghost use Rattle.std.specs.Prelude.{◌≡◌, ◌++◌, ℕ, map, flat_map, find, OnOk, IfOk, option_map};
-ghost use Rattle.tp_chart.specs.Bars.{action_bar, action_named, bars_from, hold_bar, hold_bars_in, holds_named, runs_of, way_bars};
+ghost use Rattle.std.specs.Prelude.{◌≡◌, ◌<◌, ◌+◌, ◌^◌, [], ◌∷◌, ◌++◌, filter, map, flat_map, OnOk, IfOk, option_map};
+ghost use Rattle.tp_chart.specs.Bars.{action_bar, action_named, bars_from, hold_bar, hold_bars_in, holds_named, is_in, row_behind, way_bars};
 
 use crate::action_runs::{Run, runs_of};
 use crate::course::Course;
+use crate::view::{Scope, has_row};
 use std::alloc::Global;
-use tp_base::{Memory, Name};
+use tp_base::{Memory, Name, Tick};
 use tp_machine::{Action, HoldRule, Machine, span};
 use tp_schedule::SheetName;
 
@@ -68,85 +69,114 @@ fn holds_named<'m>(machine: &'m Machine, name: &Name) -> &'m [HoldRule]
     }
 }
 
+fn is_in(first: Option<Tick>, bar: &Bar) -> bool
+    ensures { result ≡ is_in first bar.now }
+{
+    match first {
+        Some(first) => i64::from(first) < bar.end,
+        None => true,
+    }
+}
+
+/// Adds a bar, if a part of it is behind the first tick.
+fn add_bar(bars: &mut Vec<Bar>, first: Option<Tick>, bar: Bar) -> Result<(), Memory>
+    ensures { OnOk result (bars.new.items ≡ bars.old.items ++ filter (is_in first) (bar ∷ [])) }
+{
+    if is_in(first, &bar) {
+        bars.push(bar)?;
+    }
+    Ok(())
+}
+
 fn add_holds(
     bars: &mut Vec<Bar>,
+    first: Option<Tick>,
     machine: &Machine,
     course: &Course,
     run: &Run,
 ) -> Result<(), Memory>
     ensures { OnOk result (bars.new.items
-        ≡ bars.old.items ++ hold_bars_in machine.now course.now run.now) }
+        ≡ bars.old.items ++ hold_bars_in first machine.now course.now run.now) }
 {
     for hold in holds_named(machine, &run.act) {
-        bars.push(hold_bar(course, run, hold))?;
+        add_bar(bars, first, hold_bar(course, run, hold))?;
     }
     Ok(())
 }
 
 fn add_hold_bars(
     bars: &mut Vec<Bar>,
+    first: Option<Tick>,
     machine: &Machine,
     course: &Course,
     runs: &[Run],
 ) -> Result<(), Memory>
     ensures { OnOk result (bars.new.items
-        ≡ bars.old.items ++ flat_map (hold_bars_in machine.now course.now) runs.now) }
+        ≡ bars.old.items ++ flat_map (hold_bars_in first machine.now course.now) runs.now) }
 {
     for run in runs {
-        add_holds(bars, machine, course, run)?;
+        add_holds(bars, first, machine, course, run)?;
     }
     Ok(())
 }
 
 fn add_action_bars(
     bars: &mut Vec<Bar>,
+    first: Option<Tick>,
     row: usize,
     course: &Course,
     runs: &[Run],
 ) -> Result<(), Memory>
     ensures { OnOk result (bars.new.items
-        ≡ bars.old.items ++ map (action_bar row course.now) runs.now) }
+        ≡ bars.old.items ++ filter (is_in first) (map (action_bar row course.now) runs.now)) }
 {
     for run in runs {
-        bars.push(action_bar(row, course, run))?;
+        add_bar(bars, first, action_bar(row, course, run))?;
     }
     Ok(())
 }
 
 fn add_bars(
     bars: &mut Vec<Bar>,
-    by_copies: bool,
+    scope: &Scope,
     machine: &Machine,
     row: usize,
     course: &Course,
 ) -> Result<(), Memory>
     ensures { OnOk result (bars.new.items
-        ≡ bars.old.items ++ way_bars by_copies machine.now row course.now) }
+        ≡ bars.old.items ++ way_bars scope.now machine.now row course.now) }
 {
     let runs = runs_of(*bars.allocator(), course)?;
-    if by_copies {
-        add_action_bars(bars, row, course, &runs)
+    if scope.by_copies {
+        add_action_bars(bars, scope.first, row, course, &runs)
     } else {
-        add_hold_bars(bars, machine, course, &runs)
+        add_hold_bars(bars, scope.first, machine, course, &runs)
     }
 }
 
-/// The bars of the courses in turn: of their actions, a row for each copy, or else of their holds, a row for each resource.
-/// The holds of an action are those that the machine gives the action of its name.
+fn row_behind(first: Option<Tick>, row: usize, course: &Course) -> usize
+    requires { row + 1 < 2 ^ 64 }
+    ensures { result ≡ row_behind first row course.now }
+{
+    if has_row(first, course) { row + 1 } else { row }
+}
+
+/// The bars of the courses in turn, as far as they are in the scope: of their actions, a row for each copy, or else of their
+/// holds, a row for each resource. The holds of an action are those that the machine gives the action of its name.
 pub fn bars_of(
     alloc: Global,
-    by_copies: bool,
+    scope: &Scope,
     machine: &Machine,
     courses: &[Course],
 ) -> Result<Vec<Bar>, Memory>
-    ensures { IfOk result (λ bars. bars.items ≡ bars_from by_copies machine.now 0 courses.now) }
+    ensures { IfOk result (λ bars. bars.items ≡ bars_from scope.now machine.now 0 courses.now) }
 {
     let mut bars = Vec::new(alloc);
     let mut row: usize = 0;
     let mut rest = courses;
     'courses: while let [course, later @ ..] = rest {
-        add_bars(&mut bars, by_copies, machine, row, course)?;
-        row += 1;
+        add_bars(&mut bars, scope, machine, row, course)?;
+        row = row_behind(scope.first, row, course);
         rest = later;
     }
     Ok(bars)

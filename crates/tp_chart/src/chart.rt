@@ -64,14 +64,7 @@ pub fn chart_main<H: Shelf, S: Source, K: Sink>(
         Err(ChartWordsFault::Usage) => return ChartStatus::Usage,
     };
     match find_machine(alloc, shelf, request.machine) {
-        Ok(machine) => show(
-            alloc,
-            &machine,
-            request.by_copies,
-            request.until,
-            source,
-            sink,
-        ),
+        Ok(machine) => show(alloc, &machine, &request.view, source, sink),
         Err(status) => status,
     }
 }

@@ -66,7 +66,9 @@ impl fmt::Display for ChartStatus {
         match *self {
             ChartStatus::Done => Ok(()),
             ChartStatus::Memory => f.write_str("chart: out of memory"),
-            ChartStatus::Usage => f.write_str("chart: usage: chart [--sheets] [--at T] MACHINE"),
+            ChartStatus::Usage => f.write_str(
+                "chart: usage: chart [--sheets] [--from T] [--at T] MACHINE",
+            ),
             ChartStatus::Machine(MachineFault::Memory) => f.write_str(
                 "chart: machine: out of memory",
             ),

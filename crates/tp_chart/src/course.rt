@@ -1,6 +1,6 @@
 //! The way of a copy in time, as a log tells it.
 ghost use Rattle.std.specs.Prelude.{◌≡◌, ◌≤◌, ℕ, count_by, nat_le, min, IfOk, OnOk};
-ghost use Rattle.tp_chart.specs.Courses.{fresh, is_same_copy, tell_course, cut_course, joined};
+ghost use Rattle.tp_chart.specs.Courses.{fresh, tell_course, cut_course, joined};
 
 use std::alloc::Global;
 use std::marker::Model;
@@ -34,13 +34,6 @@ impl Model for Course {
       is_lost = c.is_lost;
       done = c.done;
     } };
-}
-
-/// Whether two names are those of one copy.
-pub(crate) fn is_same_copy(one: &SheetName, other: &SheetName) -> bool
-    ensures { result ≡ is_same_copy one.now other.now }
-{
-    one.number == other.number && one.copy == other.copy && one.job == other.job
 }
 
 fn count_started(moment: Tick, points: &[Tick]) -> usize
@@ -135,7 +128,8 @@ impl Course {
         points: &[Tick],
         acts: &[Name],
     ) -> Result<(), Memory>
-        ensures { OnOk result (self.new ≡ joined location points.now acts.now self.old) }
+        ensures joined { OnOk result (self.new ≡ joined location points.now acts.now self.old) }
+        ensures sheet { self.new.sheet ≡ self.old.sheet }
     {
         if let [_, rest @ ..] = points {
             self.points.extend_from_slice(rest)?;
@@ -146,7 +140,8 @@ impl Course {
     }
 
     fn put_points(&mut self, points: &[Tick]) -> Result<(), Memory>
-        ensures { OnOk result (self.new ≡ record self.old { points = points.now }) }
+        ensures points { OnOk result (self.new ≡ record self.old { points = points.now }) }
+        ensures sheet { self.new.sheet ≡ self.old.sheet }
     {
         self.points.clear();
         self.points.extend_from_slice(points)?;
@@ -155,7 +150,8 @@ impl Course {
 
     /// What a record of this copy changes.
     pub(crate) fn tell(&mut self, moment: Tick, rec: &Record) -> Result<(), Memory>
-        ensures { OnOk result (self.new ≡ tell_course moment rec.now self.old) }
+        ensures told { OnOk result (self.new ≡ tell_course moment rec.now self.old) }
+        ensures sheet { self.new.sheet ≡ self.old.sheet }
     {
         match rec {
             Record::Plan {

@@ -1,6 +1,9 @@
 //! Where the parts of a picture stand, in pixels and in ticks.
 use crate::bars::Bar;
+use crate::course::Course;
 use crate::scene::Scene;
+use crate::view::{Scope, has_row};
+use tp_base::Tick;
 use tp_machine::Machine;
 
 /// The height of a row, in pixels.
@@ -12,13 +15,14 @@ pub(crate) const HEAD: u64 = 96;
 /// The width of a letter.
 pub(crate) const LETTER: u64 = 8;
 
-/// The width of a picture's times where they are few, and at most, in millionths of a pixel.
+/// The width of a picture's times if they are few, in millionths of a pixel.
 const FEW: u64 = 960_000_000;
 
-const MOST: u64 = 8_000_000_000;
-
-/// The width of a tick where there are many.
+/// The width of a tick if there are many.
 const NARROW: u64 = 1_500_000;
+
+/// The width of the times from which on rows are named at both ends, in pixels.
+const WIDE: u64 = 1_200;
 
 /// A label of the axis takes so much, in millionths of a pixel.
 const LABEL: u64 = 80_000_000;
@@ -58,19 +62,21 @@ const STEPS: [i64; 30] = [
 ];
 
 /// The ticks from `first` to `last`, drawn from `left` on, `scale` millionths of a pixel wide each. The axis has a tick at
-/// each `step`.
+/// each multiple of `step`. The longest name of a row is `label` pixels wide.
 #[derive(Clone, Copy, Debug, PartialEq, Eq)]
 pub(crate) struct AxisFrame {
+    pub(crate) scope: Scope,
     pub(crate) first: i64,
     pub(crate) last: i64,
     pub(crate) step: i64,
     pub(crate) scale: u64,
     pub(crate) left: u64,
+    pub(crate) label: u64,
     pub(crate) rows: u64,
 }
 
-/// The first and the last tick of what is drawn.
-fn extent(scene: &Scene, bars: &[Bar]) -> (i64, i64) {
+/// The first and the last tick of bars and deliveries.
+fn bar_extent(scene: &Scene, bars: &[Bar]) -> (i64, i64) {
     let mut first = i64::MAX;
     let mut last = 0;
     for bar in bars {
@@ -85,15 +91,23 @@ fn extent(scene: &Scene, bars: &[Bar]) -> (i64, i64) {
     if bars.is_empty() {
         (0, i64::from(scene.moment()).max(10))
     } else {
-        (first, last.max(first.saturating_add(1)))
+        (first, last)
     }
 }
 
-/// How many millionths of a pixel a tick takes, where there are so many.
+/// The first and the last tick of what is drawn.
+fn extent(scope: &Scope, scene: &Scene, bars: &[Bar]) -> (i64, i64) {
+    let (first, last) = bar_extent(scene, bars);
+    let first = match scope.first {
+        Some(first) => i64::from(first),
+        None => first,
+    };
+    (first, last.max(first.saturating_add(1)))
+}
+
+/// How many millionths of a pixel a tick takes, if there are so many.
 fn scale_of(span: u64) -> u64 {
-    let span = span.max(1);
-    let wide = (FEW / span).max(NARROW);
-    wide.min(MOST / span).max(1)
+    (FEW / span.max(1)).max(NARROW)
 }
 
 fn step_of(scale: u64) -> i64 {
@@ -109,19 +123,53 @@ fn ticks_between(first: i64, last: i64) -> u64 {
     last.saturating_sub(first).max(0).unsigned_abs()
 }
 
+/// The last multiple of the step that is not above the tick.
+fn round_down(tick: i64, step: i64) -> i64 {
+    let step = step.max(1);
+    let over = tick % step;
+    let down = tick.saturating_sub(over);
+    if over < 0 {
+        down.saturating_sub(step)
+    } else {
+        down
+    }
+}
+
 impl AxisFrame {
-    /// The frame of a picture with so many rows, whose longest label has so many letters.
-    pub(crate) fn of(scene: &Scene, bars: &[Bar], rows: u64, letters: u64) -> AxisFrame {
-        let (first, last) = extent(scene, bars);
+    /// The frame of a picture with so many rows, whose longest name has so many letters.
+    pub(crate) fn of(
+        scope: &Scope,
+        scene: &Scene,
+        bars: &[Bar],
+        rows: u64,
+        letters: u64,
+    ) -> AxisFrame {
+        let (first, last) = extent(scope, scene, bars);
         let step = step_of(scale_of(ticks_between(first, last)));
-        let first = first.saturating_sub(first % step.max(1));
+        let first = match scope.first {
+            Some(_) => first,
+            None => round_down(first, step),
+        };
+        let label = letters.saturating_mul(LETTER);
         AxisFrame {
+            scope: *scope,
             first,
             last,
             step,
             scale: scale_of(ticks_between(first, last)),
-            left: letters.saturating_mul(LETTER).saturating_add(24),
+            left: label.saturating_add(24),
+            label,
             rows,
+        }
+    }
+
+    /// The first tick of the axis.
+    pub(crate) fn first_step(&self) -> i64 {
+        let down = round_down(self.first, self.step);
+        if down < self.first {
+            down.saturating_add(self.step)
+        } else {
+            down
         }
     }
 
@@ -149,12 +197,36 @@ impl AxisFrame {
     pub(crate) fn right(&self) -> u64 {
         self.x(self.last)
     }
+
+    /// Whether rows are named at both ends.
+    pub(crate) fn is_wide(&self) -> bool {
+        self.across(self.last) > WIDE
+    }
+
+    /// The width of the picture.
+    pub(crate) fn width(&self) -> u64 {
+        let beside = if self.is_wide() { self.label } else { 16 };
+        self.right()
+            .saturating_add(beside)
+            .saturating_add(16)
+            .max(720)
+    }
+}
+
+fn count_copies(first: Option<Tick>, courses: &[Course]) -> u64 {
+    let mut rows: u64 = 0;
+    for course in courses {
+        if has_row(first, course) {
+            rows = rows.saturating_add(1);
+        }
+    }
+    rows
 }
 
 /// How many rows there are: one for each copy, or else one for each resource, tray and purge tray.
-pub(crate) fn count_rows(by_copies: bool, machine: &Machine, scene: &Scene) -> u64 {
-    if by_copies {
-        return scene.courses().len() as u64;
+pub(crate) fn count_rows(scope: &Scope, machine: &Machine, scene: &Scene) -> u64 {
+    if scope.by_copies {
+        return count_copies(scope.first, scene.courses());
     }
     let trays = u64::from(machine.trays.len()).saturating_add(u64::from(machine.purges.len()));
     u64::from(machine.resources.len()).saturating_add(trays)

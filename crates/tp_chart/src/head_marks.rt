@@ -5,6 +5,7 @@ use crate::frame::{AxisFrame, HEAD};
 use crate::marks::colour_of;
 use crate::scene::Scene;
 use crate::text_pieces::{put_copy, put_name};
+use crate::view::has_row;
 use std::alloc::AllocError;
 use tp_base::{Name, Tick};
 use tp_machine::{LocId, Machine, Names};
@@ -83,9 +84,17 @@ fn put_moment(text: &mut String, frame: &AxisFrame, moment: Tick) -> Result<(), 
     Ok(())
 }
 
+/// The row of a copy's delivery: its own, or that of its tray.
+fn delivery_row(frame: &AxisFrame, machine: &Machine, course: &Course, own: u64) -> Option<u64> {
+    if frame.scope.by_copies {
+        Some(own)
+    } else {
+        row_of_tray(machine, &course.location())
+    }
+}
+
 pub(crate) fn put_ending(
     text: &mut String,
-    by_copies: bool,
     frame: &AxisFrame,
     machine: &Machine,
     scene: &Scene,
@@ -93,18 +102,15 @@ pub(crate) fn put_ending(
 ) -> Result<(), AllocError> {
     let mut own: u64 = 0;
     for course in scene.courses() {
-        let location = course.location();
-        let row = if by_copies {
-            Some(own)
-        } else {
-            row_of_tray(machine, &location)
-        };
-        if let Some(row) = row
-            && let Some(at) = course.done()
-        {
-            put_delivery(text, frame, jobs, course, row, at)?;
+        if has_row(frame.scope.first, course) {
+            if let Some(at) = course.done()
+                && let Some(row) = delivery_row(frame, machine, course, own)
+                && frame.first <= i64::from(at)
+            {
+                put_delivery(text, frame, jobs, course, row, at)?;
+            }
+            own = own.saturating_add(1);
         }
-        own = own.saturating_add(1);
     }
     put_moment(text, frame, scene.moment())?;
     text.push_str("</svg>\n")

@@ -2,7 +2,7 @@
 ghost use Rattle.std.specs.Prelude.{◌≡◌, ◌⊎◌, ℕ, ◌<◌, length, IfOk, IfErr, IfSome, IsFalse, IsTrue};
 ghost use Rattle.tp_log.specs.Logs.{IsFirstOff, IsLog, log_text};
 ghost use Rattle.tp_outside.specs.Outside.{Rises};
-ghost use Rattle.tp_chart.specs.Bars.{bars_from};
+ghost use Rattle.tp_chart.specs.Bars.{bars_seen};
 ghost use Rattle.tp_chart.specs.Pictures.{Draws};
 ghost use Rattle.tp_chart.specs.Runs.{Shows, is_of_input, is_of_show, may_have_written, most_log};
 ghost use Rattle.tp_chart.specs.Scenes.{sight_of};
@@ -11,8 +11,9 @@ use crate::bars::bars_of;
 use crate::chart_status::{ChartStatus, LongText};
 use crate::picture::draw;
 use crate::scene::scene_of;
+use crate::view::{View, scope_of};
 use std::alloc::Global;
-use tp_base::{Memory, Tick};
+use tp_base::Memory;
 use tp_log::{Item, LogFault, read_log};
 use tp_machine::Machine;
 use tp_outside::{ReadError, Sink, Source, read_all, write_all};
@@ -50,28 +51,27 @@ fn read_items<S: Source>(alloc: Global, source: &mut S) -> Result<Vec<Item>, Cha
 fn picture_of(
     alloc: Global,
     machine: &Machine,
-    by_copies: bool,
-    until: Option<Tick>,
+    view: &View,
     items: &[Item],
 ) -> Result<Vec<u8>, Memory>
-    ensures { IfOk result (λ text. Draws (bars_from by_copies machine.now 0
-        (sight_of machine.now until items.now).courses) text.items) }
+    ensures { IfOk result (λ text. Draws (bars_seen view.now machine.now
+        (sight_of machine.now view.now.until items.now).courses) text.items) }
 {
-    let scene = scene_of(alloc, machine, until, items)?;
-    let bars = bars_of(alloc, by_copies, machine, scene.courses())?;
-    draw(alloc, by_copies, machine, &scene, &bars)
+    let scene = scene_of(alloc, machine, view.until, items)?;
+    let scope = scope_of(view, scene.courses());
+    let bars = bars_of(alloc, &scope, machine, scene.courses())?;
+    draw(alloc, &scope, machine, &scene, &bars)
 }
 
 /// Reads the log and writes its picture.
 pub(crate) fn show<S: Source, K: Sink>(
     alloc: Global,
     machine: &Machine,
-    by_copies: bool,
-    until: Option<Tick>,
+    view: &View,
     source: &mut S,
     sink: &mut K,
 ) -> ChartStatus
-    ensures done { result ≡ ChartStatus.Done → Shows machine.now by_copies until
+    ensures done { result ≡ ChartStatus.Done → Shows machine.now view.now
         (S.left source.old) (K.taken sink.old) (K.taken sink.new) }
     ensures too_long { result ≡ ChartStatus.TooLong LongText.Log
         → IfSome (S.left source.old) (λ bytes. most_log < length bytes) }
@@ -87,7 +87,7 @@ pub(crate) fn show<S: Source, K: Sink>(
         Ok(items) => items,
         Err(status) => return status,
     };
-    let Ok(text) = picture_of(alloc, machine, by_copies, until, &items) else {
+    let Ok(text) = picture_of(alloc, machine, view, &items) else {
         return ChartStatus::Memory;
     };
     match write_all(sink, &text) {

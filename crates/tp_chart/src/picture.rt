@@ -9,20 +9,31 @@ use crate::marks::put_bars;
 use crate::rows::put_rows;
 use crate::scene::Scene;
 use crate::top::{put_millionths, put_top};
+use crate::view::{Scope, has_row};
 use std::alloc::{AllocError, Global};
-use tp_base::Memory;
+use tp_base::{Memory, Name};
 use tp_machine::{Machine, Names};
 
 /// How many jobs have a colour of their own place.
 const JOBS: u32 = 65_536;
 
-/// The jobs of the courses, in the order of their first ones.
-fn jobs_of(alloc: Global, scene: &Scene) -> Result<Names, Memory> {
+fn add_job(jobs: &mut Names, job: &Name) -> Result<(), Memory> {
+    if jobs.len() < JOBS {
+        let _ = jobs.add(*job)?;
+    }
+    Ok(())
+}
+
+/// The jobs of the courses and the bars that are drawn, in the order of their first ones.
+fn jobs_of(alloc: Global, scope: &Scope, scene: &Scene, bars: &[Bar]) -> Result<Names, Memory> {
     let mut jobs = Names::new(alloc);
     for course in scene.courses() {
-        if jobs.len() < JOBS {
-            let _ = jobs.add(course.sheet().job)?;
+        if has_row(scope.first, course) {
+            add_job(&mut jobs, &course.sheet().job)?;
         }
+    }
+    for bar in bars {
+        add_job(&mut jobs, &bar.sheet.job)?;
     }
     Ok(jobs)
 }
@@ -48,38 +59,39 @@ fn letters_of(by_copies: bool, machine: &Machine, scene: &Scene) -> u64 {
     letters as u64
 }
 
-/// The beginning of the group of bars, which are drawn in ticks and rows.
+/// The beginning of the group of bars, which are drawn in ticks and rows, as far as they lie in the frame.
 fn put_group(text: &mut String, frame: &AxisFrame) -> Result<(), AllocError> {
     let left = frame.left;
+    let width = frame.across(frame.last);
+    let height = frame.rows.saturating_mul(ROW);
     let back = 0i64.saturating_sub(frame.first);
-    write!(text, "<g transform=\"translate({left},{HEAD}) scale(")?;
+    write!(
+        text,
+        "<svg x=\"{left}\" y=\"{HEAD}\" width=\"{width}\" height=\"{height}\"><g transform=\"scale("
+    )?;
     put_millionths(text, frame.scale)?;
     write!(text, ",{ROW}) translate({back},0)\">\n")
 }
 
-/// How a picture is laid out: whether its rows are copies, where its parts stand, and the jobs that have colours.
+/// How a picture is laid out: where its parts stand, and the jobs that have colours.
 #[derive(Drop)]
 struct Layout {
-    by_copies: bool,
     frame: AxisFrame,
     jobs: Names,
 }
 
 fn layout_of(
     alloc: Global,
-    by_copies: bool,
+    scope: &Scope,
     machine: &Machine,
     scene: &Scene,
     bars: &[Bar],
 ) -> Result<Layout, Memory> {
-    let rows = count_rows(by_copies, machine, scene);
-    let frame = AxisFrame::of(scene, bars, rows, letters_of(by_copies, machine, scene));
-    let jobs = jobs_of(alloc, scene)?;
-    Ok(Layout {
-        by_copies,
-        frame,
-        jobs,
-    })
+    let rows = count_rows(scope, machine, scene);
+    let letters = letters_of(scope.by_copies, machine, scene);
+    let frame = AxisFrame::of(scope, scene, bars, rows, letters);
+    let jobs = jobs_of(alloc, scope, scene, bars)?;
+    Ok(Layout { frame, jobs })
 }
 
 /// What stands before the bars.
@@ -91,7 +103,7 @@ fn top_of(
 ) -> Result<String, AllocError> {
     let mut text = String::new(alloc);
     put_top(&mut text, &layout.frame, scene, &layout.jobs)?;
-    put_rows(&mut text, layout.by_copies, &layout.frame, machine, scene)?;
+    put_rows(&mut text, &layout.frame, machine, scene)?;
     put_group(&mut text, &layout.frame)?;
     Ok(text)
 }
@@ -105,16 +117,9 @@ fn ending_of(
     bars: &[Bar],
 ) -> Result<String, AllocError> {
     let mut text = String::new(alloc);
-    text.push_str("</g>\n")?;
+    text.push_str("</g></svg>\n")?;
     put_edges(&mut text, &layout.frame, bars)?;
-    put_ending(
-        &mut text,
-        layout.by_copies,
-        &layout.frame,
-        machine,
-        scene,
-        &layout.jobs,
-    )?;
+    put_ending(&mut text, &layout.frame, machine, scene, &layout.jobs)?;
     Ok(text)
 }
 
@@ -168,14 +173,14 @@ fn add_picture(
 /// The picture of a schedule with these bars, as SVG.
 pub fn draw(
     alloc: Global,
-    by_copies: bool,
+    scope: &Scope,
     machine: &Machine,
     scene: &Scene,
     bars: &[Bar],
 ) -> Result<Vec<u8>, Memory>
     ensures { IfOk result (λ text. Draws bars.now text.items) }
 {
-    let layout = layout_of(alloc, by_copies, machine, scene, bars)?;
+    let layout = layout_of(alloc, scope, machine, scene, bars)?;
     let mut text = Vec::new(alloc);
     add_picture(alloc, &mut text, &layout, machine, scene, bars)?;
     Ok(text)

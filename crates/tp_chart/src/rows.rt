@@ -3,44 +3,73 @@ use crate::frame::{AxisFrame, HEAD, ROW};
 use crate::out_span::OutSpan;
 use crate::scene::Scene;
 use crate::text_pieces::{put_copy, put_name};
+use crate::view::has_row;
 use std::alloc::AllocError;
 use tp_base::Name;
 use tp_machine::{LocId, Machine};
+use tp_schedule::SheetName;
 
 /// What stands before the name of a tray, and of a purge tray.
 const TRAY: &str = "tray ";
 
 const PURGE: &str = "purge ";
 
-/// The stripe of a row, and the beginning of its label.
-fn put_row(text: &mut String, frame: &AxisFrame, row: u64) -> Result<(), AllocError> {
-    let y = frame.y(row);
-    let below = y.saturating_add(14);
-    let right = frame.right();
-    let beside = frame.left.saturating_sub(8);
-    if row % 2 == 0 {
-        write!(
-            text,
-            "<rect class=\"stripe\" x=\"8\" y=\"{y}\" width=\"{right}\" height=\"{ROW}\"/>\n"
-        )?;
-    }
+/// What a row is named by: a kind and a name, or a copy.
+#[derive(Clone, Copy)]
+enum RowName<'a> {
+    Named(&'static str, &'a Name),
+    Copy(&'a SheetName),
+}
+
+/// The name of a row at a place.
+fn put_label(
+    text: &mut String,
+    x: u64,
+    y: u64,
+    anchor: &str,
+    name: &RowName<'_>,
+) -> Result<(), AllocError> {
     write!(
         text,
-        "<text class=\"ink\" x=\"{beside}\" y=\"{below}\" text-anchor=\"end\">"
+        "<text class=\"ink\" x=\"{x}\" y=\"{y}\" text-anchor=\"{anchor}\">"
+    )?;
+    match name {
+        RowName::Named(kind, name) => {
+            text.push_str(kind)?;
+            put_name(text, name)?;
+        }
+        RowName::Copy(sheet) => put_copy(text, sheet)?,
+    }
+    text.push_str("</text>\n")
+}
+
+/// The stripe of a row.
+fn put_stripe(text: &mut String, frame: &AxisFrame, y: u64) -> Result<(), AllocError> {
+    let width = frame.width().saturating_sub(16);
+    write!(
+        text,
+        "<rect class=\"stripe\" x=\"8\" y=\"{y}\" width=\"{width}\" height=\"{ROW}\"/>\n"
     )
 }
 
-fn put_named_row(
+/// The stripe of a row, and its name at one end or at both.
+fn put_row(
     text: &mut String,
     frame: &AxisFrame,
     row: u64,
-    kind: &str,
-    name: &Name,
+    name: &RowName<'_>,
 ) -> Result<(), AllocError> {
-    put_row(text, frame, row)?;
-    text.push_str(kind)?;
-    put_name(text, name)?;
-    text.push_str("</text>\n")
+    let y = frame.y(row);
+    let below = y.saturating_add(14);
+    if row % 2 == 0 {
+        put_stripe(text, frame, y)?;
+    }
+    put_label(text, frame.left.saturating_sub(8), below, "end", name)?;
+    if frame.is_wide() {
+        let beside = frame.right().saturating_add(8);
+        put_label(text, beside, below, "start", name)?;
+    }
+    Ok(())
 }
 
 /// The rows of trays, the first of this number.
@@ -48,7 +77,7 @@ fn put_trays(
     text: &mut String,
     frame: &AxisFrame,
     machine: &Machine,
-    kind: &str,
+    kind: &'static str,
     row: u64,
     trays: &[LocId],
 ) -> Result<(), AllocError> {
@@ -56,7 +85,7 @@ fn put_trays(
     for tray in trays {
         if u32::from(tray.0) < machine.locations.len() {
             let name = machine.locations.get(tray.0);
-            put_named_row(text, frame, row, kind, &name)?;
+            put_row(text, frame, row, &RowName::Named(kind, &name))?;
         }
         row = row.saturating_add(1);
     }
@@ -70,7 +99,7 @@ fn put_machine_rows(
 ) -> Result<(), AllocError> {
     let mut row: u64 = 0;
     for resource in machine.resources.as_slice() {
-        put_named_row(text, frame, row, "", &resource.name)?;
+        put_row(text, frame, row, &RowName::Named("", &resource.name))?;
         row = row.saturating_add(1);
     }
     let trays = machine.trays.as_slice();
@@ -82,10 +111,10 @@ fn put_machine_rows(
 fn put_copy_rows(text: &mut String, frame: &AxisFrame, scene: &Scene) -> Result<(), AllocError> {
     let mut row: u64 = 0;
     for course in scene.courses() {
-        put_row(text, frame, row)?;
-        put_copy(text, course.sheet())?;
-        text.push_str("</text>\n")?;
-        row = row.saturating_add(1);
+        if has_row(frame.scope.first, course) {
+            put_row(text, frame, row, &RowName::Copy(course.sheet()))?;
+            row = row.saturating_add(1);
+        }
     }
     Ok(())
 }
@@ -132,9 +161,10 @@ fn put_tick(text: &mut String, frame: &AxisFrame, tick: i64) -> Result<(), Alloc
 
 fn put_axis(text: &mut String, frame: &AxisFrame) -> Result<(), AllocError> {
     let step = frame.step.max(1);
-    let count = frame.last.saturating_sub(frame.first).max(0) / step;
+    let first = frame.first_step();
+    let count = frame.last.saturating_sub(first) / step;
     for number in 0..=count {
-        let tick = frame.first.saturating_add(number.saturating_mul(step));
+        let tick = first.saturating_add(number.saturating_mul(step));
         put_tick(text, frame, tick)?;
     }
     Ok(())
@@ -142,12 +172,11 @@ fn put_axis(text: &mut String, frame: &AxisFrame) -> Result<(), AllocError> {
 
 pub(crate) fn put_rows(
     text: &mut String,
-    by_copies: bool,
     frame: &AxisFrame,
     machine: &Machine,
     scene: &Scene,
 ) -> Result<(), AllocError> {
-    if by_copies {
+    if frame.scope.by_copies {
         put_copy_rows(text, frame, scene)?;
         return put_axis(text, frame);
     }

@@ -1,14 +1,13 @@
 //! The schedule that a log tells up to a moment.
-ghost use Rattle.std.specs.Prelude.{◌≡◌, ◌≤◌, IfOk, OnOk, position};
-ghost use Rattle.tp_chart.specs.Courses.{fresh, is_same_copy, joined, tell_course};
-ghost use Rattle.tp_chart.specs.Scenes.{changed, comes_back, goes_out, is_past, moves_past, nothing, planned, sight_of, tell, tell_event, tell_record, with_changed, without};
-ghost use Rattle.tp_schedule.specs.declared.records.Record.TheVariants.{Plan};
+ghost use Rattle.std.specs.Prelude.{◌≡◌, IfOk, OnOk};
+ghost use Rattle.tp_chart.specs.Scenes.{comes_back, goes_out, is_past, moves_past, nothing, sight_of, tell, tell_event, tell_record, with_changed, without};
 
-use crate::course::{Course, is_same_copy};
+use crate::course::Course;
+use crate::courses::Courses;
 use crate::out_span::{OutSpan, all_ended, is_out};
 use std::alloc::Global;
 use std::marker::Model;
-use tp_base::{Items, Memory, Name, Tick};
+use tp_base::{Memory, Name, Tick};
 use tp_log::Item;
 use tp_machine::Machine;
 use tp_schedule::{Record, SheetName};
@@ -21,7 +20,7 @@ const LAST_TICK: Tick = 1_000_000_000;
 #[derive(Drop)]
 pub struct Scene {
     moment: Tick,
-    courses: Vec<Course>,
+    courses: Courses,
     outages: Vec<OutSpan>,
 }
 
@@ -33,55 +32,9 @@ impl Model for Scene {
 
     ghost view = { λ s. record {
       moment = s.moment;
-      courses = s.courses.items;
+      courses = s.courses;
       outages = s.outages.items;
     } };
-}
-
-fn place_of(courses: &[Course], sheet: &SheetName) -> Option<usize>
-    ensures { result ≡ position (λ w. is_same_copy w.sheet sheet.now) courses.now }
-{
-    courses
-        .iter()
-        .position(|course| is_same_copy(course.sheet(), sheet))
-}
-
-/// The record changes the course of its copy, if it has one.
-fn change(
-    courses: &mut Vec<Course>,
-    moment: Tick,
-    sheet: &SheetName,
-    rec: &Record,
-) -> Result<(), Memory>
-    ensures { OnOk result (courses.new.items
-        ≡ changed sheet.now (tell_course moment rec.now) courses.old.items) }
-{
-    match place_of(courses, sheet) {
-        Some(at) => courses[at].tell(moment, rec),
-        None => Ok(()),
-    }
-}
-
-/// A plan of the copy: its course goes on by it, or begins.
-fn plan(
-    courses: &mut Vec<Course>,
-    sheet: &SheetName,
-    location: Name,
-    points: &[Tick],
-    acts: &[Name],
-) -> Result<(), Memory>
-    ensures { OnOk result (courses.new.items ≡ planned sheet.now
-        (joined location points.now acts.now)
-        (fresh sheet.now location points.now acts.now) courses.old.items) }
-{
-    match place_of(courses, sheet) {
-        Some(at) => courses[at].join(location, points, acts),
-        None => {
-            let course = Course::new(*courses.allocator(), sheet, location, points, acts)?;
-            courses.push(course)?;
-            Ok(())
-        }
-    }
 }
 
 /// Whether the event moves the clock beyond the moment.
@@ -109,7 +62,7 @@ impl Scene {
     {
         Scene {
             moment: 0,
-            courses: Vec::new(alloc),
+            courses: Courses::new(alloc),
             outages: Vec::new(alloc),
         }
     }
@@ -124,7 +77,7 @@ impl Scene {
     pub fn courses(&self) -> &[Course]
         ensures { result.now ≡ self.now.courses }
     {
-        &self.courses
+        self.courses.as_slice()
     }
 
     pub fn outages(&self) -> &[OutSpan]
@@ -161,14 +114,13 @@ impl Scene {
     fn leave(&mut self, sheet: &SheetName)
         ensures { self.new ≡ record self.old { courses = without sheet.now self.old.courses } }
     {
-        self.courses
-            .retain(|course| !is_same_copy(course.sheet(), sheet));
+        self.courses.leave(sheet);
     }
 
     fn change(&mut self, sheet: &SheetName, rec: &Record) -> Result<(), Memory>
         ensures { OnOk result (self.new ≡ with_changed sheet.now rec.now self.old) }
     {
-        change(&mut self.courses, self.moment, sheet, rec)
+        self.courses.change(self.moment, sheet, rec)
     }
 
     fn tell_record(&mut self, machine: &Machine, rec: &Record) -> Result<(), Memory>
@@ -180,13 +132,9 @@ impl Scene {
                 place,
                 points,
                 acts,
-            } => plan(
-                &mut self.courses,
-                sheet,
-                *place,
-                points.as_slice(),
-                acts.as_slice(),
-            ),
+            } => self
+                .courses
+                .plan(sheet, *place, points.as_slice(), acts.as_slice()),
             Record::Move { sheet, .. } => self.change(sheet, rec),
             Record::Release { sheet, .. } => self.change(sheet, rec),
             Record::Done { sheet, .. } => self.change(sheet, rec),

@@ -82,7 +82,7 @@ fn put_hatches(text: &mut String, scale: u64) -> Result<(), AllocError> {
 }
 
 fn put_size(text: &mut String, frame: &AxisFrame) -> Result<(), AllocError> {
-    let width = frame.right().saturating_add(32).max(720);
+    let width = frame.width();
     let height = frame.bottom().saturating_add(ROW);
     write!(
         text,
@@ -130,21 +130,33 @@ fn put_key(text: &mut String) -> Result<(), AllocError> {
     )
 }
 
+/// The moment, and the first tick of a picture that does not show all.
+fn put_title(text: &mut String, frame: &AxisFrame, scene: &Scene) -> Result<(), AllocError> {
+    let moment = scene.moment();
+    write!(text, "The schedule at {moment}")?;
+    if let Some(first) = frame.scope.first {
+        write!(text, ", from {first} on")?;
+    }
+    Ok(())
+}
+
 pub(crate) fn put_top(
     text: &mut String,
     frame: &AxisFrame,
     scene: &Scene,
     jobs: &Names,
 ) -> Result<(), AllocError> {
-    let moment = scene.moment();
     put_size(text, frame)?;
-    write!(text, "<title>The schedule at {moment}</title>\n")?;
+    text.push_str("<title>")?;
+    put_title(text, frame, scene)?;
+    text.push_str("</title>\n")?;
     put_colours(text)?;
     put_hatches(text, frame.scale)?;
-    write!(
-        text,
-        "<rect class=\"back\" width=\"100%\" height=\"100%\"/>\n<text class=\"ink\" x=\"16\" y=\"24\" font-size=\"15\" font-weight=\"bold\">The schedule at {moment}</text>\n"
+    text.push_str(
+        "<rect class=\"back\" width=\"100%\" height=\"100%\"/>\n<text class=\"ink\" x=\"16\" y=\"24\" font-size=\"15\" font-weight=\"bold\">",
     )?;
+    put_title(text, frame, scene)?;
+    text.push_str("</text>\n")?;
     put_jobs(text, jobs)?;
     put_key(text)
 }

@@ -1,20 +1,19 @@
 //! What the words of the command line ask for.
-ghost use Rattle.std.specs.Prelude.{◌≡◌, IfOk, IfErr, [], Some, None, length, map, option_map, string_bytes};
-ghost use Rattle.clap.specs.Words.{app_of, found_of, fault_of, matches_of, rows_of};
-ghost use Rattle.tp_chart.specs.Words.{asked_at, asked_in, chart, chart_asked, moment_of, seen, shown, values_in, values_or_none};
+ghost use Rattle.std.specs.Prelude.{◌≡◌, IfOk, IfErr, [], Some, None, false, length, map, option_map, string_bytes};
+ghost use Rattle.clap.specs.Words.{app_of, found_of, fault_of, matches_of, rows_of, rule_of};
+ghost use Rattle.tp_chart.specs.Words.{asked_at, asked_in, bare, chart, chart_asked, option_rule, seen, sheets_rule, shown, tick_of, values_in, values_of, view_in, view_of};
 
+use crate::view::View;
 use clap::{Arg, ArgAction, ArgMatches, Command};
 use std::alloc::{AllocError, Global};
 use tp_base::Tick;
 use tp_words::read_number;
 
-/// What the words ask for: the picture of a schedule on the machine of this name, at the end of the log or as it stood at the
-/// moment, with a row for each resource or for each copy.
+/// What the words ask for: the picture of a schedule on the machine of this name.
 #[derive(Clone, Copy, Debug, PartialEq, Eq)]
 pub struct ChartRequest<'a> {
     pub machine: &'a str,
-    pub by_copies: bool,
-    pub until: Option<Tick>,
+    pub view: View,
 }
 
 /// Why the words ask for nothing.
@@ -24,22 +23,41 @@ pub enum ChartWordsFault {
     Usage,
 }
 
-/// Words in their order, a flag, and an option with a value. How many there are is looked at later.
-fn command<'a>(alloc: Global) -> Result<Command<'a>, AllocError>
-    ensures { IfOk result (λ c. app_of c ≡ chart) }
+fn option<'a>(alloc: Global, id: &'static str) -> Arg<'a>
+    ensures rule { rule_of result ≡ option_rule id.now }
+    ensures local { result.global ≡ false }
+{
+    Arg::new(alloc, id).long(id).action(ArgAction::Append)
+}
+
+fn sheets<'a>(alloc: Global) -> Arg<'a>
+    ensures rule { rule_of result ≡ sheets_rule }
+    ensures local { result.global ≡ false }
+{
+    Arg::new(alloc, "sheets")
+        .long("sheets")
+        .action(ArgAction::Append)
+        .num_args(0usize)
+        .default_missing_value("set")
+}
+
+fn bare<'a>(alloc: Global) -> Command<'a>
+    ensures { app_of result ≡ bare }
 {
     Command::new(alloc, "chart")
         .no_binary_name(true)
         .disable_help_flag(true)
+}
+
+/// Words in their order, a flag, and options with a value. How many there are is looked at later.
+fn command<'a>(alloc: Global) -> Result<Command<'a>, AllocError>
+    ensures { IfOk result (λ c. app_of c ≡ chart) }
+{
+    bare(alloc)
         .arg(Arg::new(alloc, "words").action(ArgAction::Append))?
-        .arg(
-            Arg::new(alloc, "sheets")
-                .long("sheets")
-                .action(ArgAction::Append)
-                .num_args(0usize)
-                .default_missing_value("set"),
-        )?
-        .arg(Arg::new(alloc, "at").long("at").action(ArgAction::Append))
+        .arg(sheets(alloc))?
+        .arg(option(alloc, "from"))?
+        .arg(option(alloc, "at"))
 }
 
 fn match_words<'a>(alloc: Global, words: &'a [String]) -> Result<ArgMatches<'a>, ChartWordsFault>
@@ -71,8 +89,7 @@ fn values<'m, 'a>(matches: &'m ArgMatches<'a>, id: &str) -> Option<&'m [&'a str]
 
 /// How often an id stands in the words.
 fn count(matches: &ArgMatches<'_>, id: &str) -> usize
-    ensures { result ≡ length (values_or_none
-        (values_in id.now (rows_of (found_of matches.now)))) }
+    ensures { result ≡ length (values_of id.now (rows_of (found_of matches.now))) }
 {
     match values(matches, id) {
         Some(texts) => texts.len(),
@@ -80,36 +97,66 @@ fn count(matches: &ArgMatches<'_>, id: &str) -> usize
     }
 }
 
-/// The moment of the texts that are given as one: there is at most one such text.
-fn moment_of(texts: &[&str]) -> Option<Option<Tick>>
-    ensures { result ≡ moment_of (shown texts.now) }
+/// The tick of the texts that are given as one: there is at most one such text.
+fn read_tick(texts: &[&str]) -> Option<Option<Tick>>
+    ensures { result ≡ tick_of (shown texts.now) }
 {
     match texts {
         [] => Some(None),
         [text] => match read_number(text.as_bytes()) {
-            Some(moment) => Some(Some(moment)),
+            Some(tick) => Some(Some(tick)),
             None => None,
         },
         _ => None,
     }
 }
 
-/// What is asked for by the words that are no options, with so many flags and these moments.
-fn ask<'a>(places: &[&'a str], sheets: usize, moments: &[&str]) -> Option<ChartRequest<'a>>
-    ensures { option_map seen result ≡ asked_at (shown places.now) sheets (shown moments.now) }
+/// The tick of an option.
+fn tick(matches: &ArgMatches<'_>, id: &str) -> Option<Option<Tick>>
+    ensures { result ≡ tick_of (values_of id.now (rows_of (found_of matches.now))) }
 {
-    let [machine] = places else {
+    match values(matches, id) {
+        Some(texts) => read_tick(texts),
+        None => Some(None),
+    }
+}
+
+/// How the schedule is to be shown, with so many flags and these ticks.
+fn view_of(sheets: usize, from: Option<Option<Tick>>, until: Option<Option<Tick>>) -> Option<View>
+    ensures { result ≡ view_of sheets from until }
+{
+    let (Some(from), Some(until)) = (from, until) else {
         return None;
     };
     if sheets > 1 {
         return None;
     }
-    let until = moment_of(moments)?;
-    Some(ChartRequest {
-        machine,
+    Some(View {
         by_copies: sheets == 1,
+        from,
         until,
     })
+}
+
+/// What is asked for by the words that are no options, to be shown so.
+fn ask<'a>(places: &[&'a str], view: Option<View>) -> Option<ChartRequest<'a>>
+    ensures { option_map seen result ≡ asked_at (shown places.now) view }
+{
+    let [machine] = places else {
+        return None;
+    };
+    let view = view?;
+    Some(ChartRequest { machine, view })
+}
+
+fn view_in(matches: &ArgMatches<'_>) -> Option<View>
+    ensures { result ≡ view_in (rows_of (found_of matches.now)) }
+{
+    view_of(
+        count(matches, "sheets"),
+        tick(matches, "from"),
+        tick(matches, "at"),
+    )
 }
 
 /// What is asked for by the words as the library tells them.
@@ -117,11 +164,7 @@ fn asked<'a>(matches: &ArgMatches<'a>) -> Option<ChartRequest<'a>>
     ensures { option_map seen result ≡ asked_in (rows_of (found_of matches.now)) }
 {
     let places = values(matches, "words")?;
-    let sheets = count(matches, "sheets");
-    match values(matches, "at") {
-        Some(moments) => ask(places, sheets, moments),
-        None => ask(places, sheets, &[]),
-    }
+    ask(places, view_in(matches))
 }
 
 /// What the words ask for, the program's own name left out. `Usage` comes exactly where they are not of the form.

@@ -1,4 +1,4 @@
-use Rattle.std.proofs.Common.{◌≡◌, ◌+◌, ◌++◌, length}
+use Rattle.std.proofs.Common.{◌≡◌, ◌+◌, ◌≤◌, ◌++◌, length}
 use Rattle.tp_chart.specs.Bars.{bars_from}
 use Rattle.tp_chart.proofs.bars.bars_of.Given as goal
 
@@ -7,6 +7,6 @@ decreases-courses l = length l.rest
 
 abbrev pub invariant-courses : goal.invariant-courses
 invariant-courses l = record {
-  so_far : l.bars.items ++ bars_from l.by_copies l.machine l.row l.rest ≡ bars_from l.by_copies l.machine 0 l.courses;
-  counted : l.row + length l.rest ≡ length l.courses;
+  so_far : l.bars.items ++ bars_from l.scope l.machine l.row l.rest ≡ bars_from l.scope l.machine 0 l.courses;
+  counted : l.row + length l.rest ≤ length l.courses;
 }
