@@ -1,4 +1,4 @@
-# Completion of printer and chart for bash: source this file.
+# Completion of printer, verify and chart for bash: source this file.
 _printer() {
     local word=${COMP_WORDS[COMP_CWORD]} last=${COMP_WORDS[COMP_CWORD-1]}
     case $last in
@@ -18,4 +18,8 @@ _chart() {
     esac
 }
 complete -o filenames -F _printer printer ./printer ./try
+_verify() {
+    COMPREPLY=($(compgen -f -X '!*.toml' -- "${COMP_WORDS[COMP_CWORD]}"))
+}
+complete -o filenames -F _verify verify ./verify
 complete -o filenames -F _chart chart ./chart

@@ -18,3 +18,7 @@ pub mod UnlawfulStarts
 pub mod FedInTurn
 pub mod StopCauses
 pub mod LogEnds
+pub mod LineSizes
+pub mod LogSizes
+pub mod RunSizes
+pub mod Rejections

@@ -1,0 +1,4 @@
+mod CheckFacts
+mod InOrderFacts
+mod VerdictFacts
+mod WordFacts

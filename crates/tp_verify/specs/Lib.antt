@@ -1,0 +1,5 @@
+pub mod Words
+pub mod Statuses
+pub mod Machines
+pub mod Checks
+pub mod InOrder
