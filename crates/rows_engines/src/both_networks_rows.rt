@@ -13,7 +13,8 @@ use tp_search::Engine;
 use tp_stn_undo::LiveNet;
 
 fn live_engine_for(alloc: Global, machine: &Machine) -> Result<Engine<LiveNet>, Fail>
-    ensures { IfOk result (λ engine. ⟦<Engine<LiveNet> as Planner>⟧.serves engine machine.now) }
+    ensures { IfOk result
+        (λ engine. ⟦<Engine<LiveNet> as Planner>⟧.serves engine machine.now) }
 {
     match LiveNet::new(alloc, 16_642, 100_000, 330) {
         Ok(net) => match Engine::new(alloc, machine, net, 1000, false) {

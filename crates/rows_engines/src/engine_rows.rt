@@ -30,7 +30,8 @@ pub(crate) fn engine_for(
     machine: &Machine,
     bounds: bool,
 ) -> Result<Engine<PlainNet>, Fail>
-    ensures { IfOk result (λ engine. ⟦<Engine<PlainNet> as Planner>⟧.serves engine machine.now) }
+    ensures { IfOk result
+        (λ engine. ⟦<Engine<PlainNet> as Planner>⟧.serves engine machine.now) }
 {
     match PlainNet::new(alloc, 16_642, 100_000, 330) {
         Ok(net) => match Engine::new(alloc, machine, net, 1000, bounds) {

@@ -8,7 +8,8 @@ use tp_base::{Edge, Late, Mark, Network};
 pub(crate) fn set_mark<N: Network>(net: &mut N) -> Mark
     requires { length (N.reading.past net.old) < N.reading.max_marks net.old }
     ensures number { result.0 ≡ length (N.reading.past net.old) }
-    ensures past { N.reading.past net.new ≡ N.reading.past net.old ++ N.reading.net net.old ∷ [] }
+    ensures past { N.reading.past net.new
+        ≡ N.reading.past net.old ++ N.reading.net net.old ∷ [] }
     ensures net { N.reading.net net.new ≡ N.reading.net net.old }
     ensures marks { N.reading.max_marks net.new ≡ N.reading.max_marks net.old }
     ensures points { N.reading.max_points net.new ≡ N.reading.max_points net.old }

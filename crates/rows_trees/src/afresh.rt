@@ -141,7 +141,8 @@ impl Planner for Both {
 }
 
 fn engine_for(alloc: Global, machine: &Machine) -> Result<Engine<LiveNet>, Fail>
-    ensures { IfOk result (λ engine. ⟦<Engine<LiveNet> as Planner>⟧.serves engine machine.now) }
+    ensures { IfOk result
+        (λ engine. ⟦<Engine<LiveNet> as Planner>⟧.serves engine machine.now) }
 {
     let Ok(net) = LiveNet::new(alloc, 16_642, 100_000, 330) else {
         return Err(Fail::from("memory"));

@@ -48,7 +48,8 @@ pub trait Network: Undo {
         requires spare { length (reading.net self.old).edges < reading.max_edges self.old }
         requires least { negsuc 999999 ≤ℤ edge.weight }
         requires most { edge.weight ≤ℤ pos most_weight }
-        ensures added { OnOk result (reading.net self.new ≡ with_edge (reading.net self.old) edge) }
+        ensures added { OnOk result
+            (reading.net self.new ≡ with_edge (reading.net self.old) edge) }
         ensures solved { OnOk result (HasLeast (reading.net self.new)) }
         ensures late { OnErr result (HasNoSolution (with_edge (reading.net self.old) edge)) }
         ensures kept { OnErr result (reading.net self.new ≡ reading.net self.old) }
@@ -153,7 +154,8 @@ pub trait Network: Undo {
     /// Whether a point before this one may be later than it was at the oldest mark in force. A network that does not keep
     /// what it was says yes.
     fn may_have_risen(&self, end: PointId) -> bool
-        ensures { result ≡ false → (old : Net) → slice_get (reading.past self.now) 0 ≡ Some old
+        ensures { result ≡ false → (old : Net)
+            → slice_get (reading.past self.now) 0 ≡ Some old
             → HaveSameTimes end.0 old (reading.net self.now) };
 
     /// Why the last change was refused. `mark` and `undo_to` leave it as it is.

@@ -25,7 +25,8 @@ pub fn chart_main<H: Shelf, S: Source, K: Sink>(
     sink: &mut K,
 ) -> ChartStatus
     // The words ask for no picture. Want of memory may come first.
-    ensures usage { result ≡ ChartStatus.Usage → chart_asked (map string_bytes words.now) ≡ None }
+    ensures usage { result ≡ ChartStatus.Usage
+        → chart_asked (map string_bytes words.now) ≡ None }
     ensures used { chart_asked (map string_bytes words.now) ≡ None
         → (result ≡ ChartStatus.Usage) ⊎ (result ≡ ChartStatus.Memory) }
 
@@ -45,7 +46,8 @@ pub fn chart_main<H: Shelf, S: Source, K: Sink>(
         → IfSome (S.left source.old) (IsFirstOff n) }
 
     // The outside failed.
-    ensures shelf { result ≡ ChartStatus.Shelf → Rises (H.faults shelf.old) (H.faults shelf.new) }
+    ensures shelf { result ≡ ChartStatus.Shelf
+        → Rises (H.faults shelf.old) (H.faults shelf.new) }
     ensures source { result ≡ ChartStatus.Source
         → Rises (S.faults source.old) (S.faults source.new) }
     ensures sink { result ≡ ChartStatus.Sink → Rises (K.faults sink.old) (K.faults sink.new) }

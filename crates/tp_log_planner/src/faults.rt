@@ -67,7 +67,8 @@ fn begin_by(machine: &Machine, plan: &Plan, number: u32, resource: ResId) -> Opt
     requires formed { IsFormed plan.now }
     requires some { 1 ≤ number }
     requires within { number ≤ length plan.now.acts }
-    ensures { MatchOption result ((begin : ℤ) → BeginsIn machine.now plan.now number resource begin
+    ensures { MatchOption result
+        ((begin : ℤ) → BeginsIn machine.now plan.now number resource begin
         → ⊥) (BeginsIn machine.now plan.now number resource) }
 {
     let holds = holds_of(machine, plan.acts.get(number - 1));

@@ -101,7 +101,8 @@ impl Told {
     /// Why it stopped last, if it did.
     pub fn stop(&self) -> Option<WrongItem>
         ensures last { result ≡ self.now.stop }
-        ensures counted { MatchOption result (self.now.stops ≡ 0) (λ stop. 1 ≤ self.now.stops) }
+        ensures counted { MatchOption result (self.now.stops ≡ 0)
+            (λ stop. 1 ≤ self.now.stops) }
     {
         self.stop
     }

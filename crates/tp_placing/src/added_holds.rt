@@ -42,7 +42,8 @@ struct Place {
 fn push_causes(causes: &mut Causes, near: &Neighbours, new: &Held) -> u32
     requires capacity { length causes.old + 2 ≤ most_causes }
     ensures tag { result ≡ length causes.old }
-    ensures added { causes.new ≡ causes.old ++ causes_for near.now.before new.now near.now.behind }
+    ensures added { causes.new
+        ≡ causes.old ++ causes_for near.now.before new.now near.now.behind }
 {
     let first = match &near.before {
         Some(before) => between(before, new),
@@ -88,7 +89,8 @@ fn put_hold(
     requires holds { total timelines.old.orders < timelines.old.hold_capacity }
     requires causes { length causes.old + 2 ≤ most_causes }
     requires edges { vec_len edges.old + 2 ≤ vec_capacity edges.old }
-    ensures timelines { timelines.new.orders ≡ slice_set timelines.old.orders hold.now.rule.resource.0
+    ensures timelines { timelines.new.orders
+        ≡ slice_set timelines.old.orders hold.now.rule.resource.0
         (insert (order_on timelines.old.orders hold.now.rule.resource.0) place.at place.number) }
     ensures edges { edges.new.items ≡ edges.old.items ++ edges_around place.gap
         (held_before held.now (order_on timelines.old.orders hold.now.rule.resource.0) place.at)
@@ -172,7 +174,8 @@ pub(crate) fn put_holds(
     requires causes { length causes.old + 2 * (length look.held.now - from) ≤ most_causes }
     requires edges { vec_len edges.old + 2 * (length look.held.now - from)
         ≤ vec_capacity edges.old }
-    ensures put { (before : ℕ → List Slot) → ((r : ℕ) → All (λ s. s.rule.resource.0 ≡ r) (before r))
+    ensures put { (before : ℕ → List Slot)
+        → ((r : ℕ) → All (λ s. s.rule.resource.0 ≡ r) (before r))
         → ((r : ℕ) → r < length machine.now.resources
         → AreSlots (table_of look.entry.plans.now) look.entry.held.now
         (order_on timelines.old.orders r) (before r))

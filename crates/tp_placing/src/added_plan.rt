@@ -91,8 +91,10 @@ impl<N: Network> Board<N> {
     fn has_capacity(&self) -> bool
         ensures edges { result ≡ true
             → length (N.reading.net self.now.net).edges + most_plan_edges ≤ loaded_edges }
-        ensures holds { result ≡ true → length self.now.held + most_plan_holds ≤ loaded_holds }
-        ensures causes { result ≡ true → length self.now.causes + most_plan_causes ≤ most_causes }
+        ensures holds { result ≡ true
+            → length self.now.held + most_plan_holds ≤ loaded_holds }
+        ensures causes { result ≡ true
+            → length self.now.causes + most_plan_causes ≤ most_causes }
     {
         if self.edge_capacity - self.net.spare_edges() > EDGES {
             return false;

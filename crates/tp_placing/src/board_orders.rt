@@ -31,7 +31,8 @@ impl<N: Network> Board<N> {
         requires there { (m : Machine) → Stands N.reading self.now m
             → place < length (order_after m self.now.plans (suffix_of self.now) resource.0) }
         ensures { (m : Machine) → Stands N.reading self.now m → (s : Slot)
-            → slice_get (order_after m self.now.plans (suffix_of self.now) resource.0) place ≡ Some s
+            → slice_get (order_after m self.now.plans (suffix_of self.now) resource.0) place
+            ≡ Some s
             → IsHoldOf (board_table self.now.plans (suffix_of self.now)) result s }
     {
         self.held[self.timelines.at(resource, place) as usize]

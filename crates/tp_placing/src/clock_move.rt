@@ -35,7 +35,8 @@ fn released_in(schedule: &Schedule, plan: &Plan, live: bool) -> u32 {
 /// Whether the actions from a number on, which are not released, begin after a tick.
 fn begins_after(plan: &Plan, released: u32, floor: Tick) -> bool
     requires formed { IsFormed plan.now }
-    requires rise { (i : ℕ) → i < length plan.now.acts → point plan.now i < point plan.now (i + 1) }
+    requires rise { (i : ℕ) → i < length plan.now.acts
+        → point plan.now i < point plan.now (i + 1) }
     ensures { result ≡ true → (i : ℕ) → released ≤ i → i < length plan.now.acts
         → floor < point plan.now i }
 {
@@ -45,7 +46,8 @@ fn begins_after(plan: &Plan, released: u32, floor: Tick) -> bool
 /// Whether a plan can be released so far: as far as before or further, and all that is not released then begins late enough.
 fn can_release(plan: &Plan, machine: &Machine, released: u32, now: Tick) -> bool
     requires formed { IsFormed plan.now }
-    requires rise { (i : ℕ) → i < length plan.now.acts → point plan.now i < point plan.now (i + 1) }
+    requires rise { (i : ℕ) → i < length plan.now.acts
+        → point plan.now i < point plan.now (i + 1) }
     requires fits { now + machine.now.lead < 2 ^ 32 }
     ensures { result ≡ true
         → IsFurther machine.now now plan.now (with_released released plan.now) }
@@ -63,7 +65,8 @@ fn release_all(plans: &mut Vec<Plan>, machine: &Machine, schedule: &Schedule, no
     requires rise { All (λ p. (i : ℕ) → i < length p.acts → point p i < point p (i + 1))
         plans.old.items }
     requires fits { now + machine.now.lead < 2 ^ 32 }
-    ensures further { result ≡ true → AreFurther machine.now now plans.old.items plans.new.items }
+    ensures further { result ≡ true
+        → AreFurther machine.now now plans.old.items plans.new.items }
     ensures space { vec_capacity plans.old ≤ vec_capacity plans.new }
 {
     let mut over = 0;

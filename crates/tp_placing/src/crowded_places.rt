@@ -100,7 +100,8 @@ fn least_by(machine: &Machine, act: ActId) -> Option<u32>
 
 /// How long the newest action lasts at least.
 fn least_by_newest(machine: &Machine, newest: Option<ActId>) -> Option<u32>
-    ensures { (least : ℕ) → result ≡ Some least → IsSomeAnd newest (λ act. (start end : ℕ)
+    ensures { (least : ℕ) → result ≡ Some least
+        → IsSomeAnd newest (λ act. (start end : ℕ)
         → LastsWithin machine.now act start end → start + least ≤ end) }
 {
     match newest {
@@ -221,7 +222,8 @@ fn begin_behind<N: Network>(
     requires numbers { All (λ id. id < length known.held.now)
         (order_on timelines.now.orders new.now.rule.resource.0) }
     requires among { (k : ℕ) (h : Held)
-        → held_behind known.held.now (order_on timelines.now.orders new.now.rule.resource.0) k ≡ Some h
+        → held_behind known.held.now (order_on timelines.now.orders new.now.rule.resource.0) k
+        ≡ Some h
         → IsAmong (length (N.reading.net net.now).lows) h }
     requires in_order { IsNonDecreasingBy (λ f. f.0) known.firsts.now }
     requires new { IsAmong (length (N.reading.net net.now).lows) new.now }
@@ -260,7 +262,8 @@ fn begin_behind<N: Network>(
 fn low_for(hold: &Held, till: i64) -> u32
     requires low { negsuc 4294967295 ≤ℤ till }
     requires high { till ≤ℤ pos 1099511627776 }
-    ensures { (tick : ℕ) → till ≤ℤ (pos tick +ℤ hold.now.rule.begin_off) → result ≤ tick }
+    ensures { (tick : ℕ) → till ≤ℤ (pos tick +ℤ hold.now.rule.begin_off)
+        → result ≤ tick }
 {
     let low = till - hold.rule.begin_off as i64;
     if low <= 0 {

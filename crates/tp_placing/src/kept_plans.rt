@@ -64,7 +64,8 @@ fn add_edges(
         ≤ vec_capacity edges.old }
     requires causes { length causes.old ≡ step_causes }
     requires capacity { step_causes
-        + length (chains_causes (holds_on held.now timelines.now.orders) (length machine.now.resources))
+        + length (chains_causes (holds_on held.now timelines.now.orders)
+        (length machine.now.resources))
         ≤ most_causes }
     requires fits { point_count plans.now < 2 ^ 32 }
     requires resources { length timelines.now.orders ≡ length machine.now.resources }

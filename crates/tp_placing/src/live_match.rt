@@ -34,7 +34,8 @@ fn is_same_way(one: &Plan, other: &Plan) -> bool
 
 /// Whether both plans want the same.
 fn is_same_want(one: &Plan, other: &Plan) -> bool
-    ensures { result ≡ true → (one.now.name ≡ other.now.name) × (one.now.want ≡ other.now.want)
+    ensures { result ≡ true
+        → (one.now.name ≡ other.now.name) × (one.now.want ≡ other.now.want)
         × (one.now.goal ≡ other.now.goal) }
 {
     if one.name != other.name {
@@ -67,7 +68,8 @@ fn is_same_plan(one: &Plan, other: &Plan) -> bool
 
 /// Whether a plan stands at a place.
 fn is_met(plans: &[Plan], at: usize, plan: &Plan) -> bool
-    ensures met { result ≡ true → take (at + 1) plans.now ≡ take at plans.now ++ plan.now ∷ [] }
+    ensures met { result ≡ true
+        → take (at + 1) plans.now ≡ take at plans.now ++ plan.now ∷ [] }
     ensures there { result ≡ true → at < length plans.now }
 {
     at < plans.len() && is_same_plan(&plans[at], plan)

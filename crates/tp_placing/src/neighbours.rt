@@ -14,8 +14,10 @@ use tp_timelines::Timelines;
 /// The hold at a place of a resource's order.
 fn held_at(timelines: &Timelines, held: &[Held], resource: ResId, place: u32) -> Option<Held>
     requires known { resource.0 < length timelines.now.orders }
-    requires numbers { All (λ id. id < length held.now) (order_on timelines.now.orders resource.0) }
-    ensures { result ≡ held_of held.now (slice_get (order_on timelines.now.orders resource.0) place) }
+    requires numbers { All (λ id. id < length held.now)
+        (order_on timelines.now.orders resource.0) }
+    ensures { result
+        ≡ held_of held.now (slice_get (order_on timelines.now.orders resource.0) place) }
 {
     if place < timelines.len(resource) {
         Some(held[timelines.at(resource, place) as usize])
@@ -39,7 +41,8 @@ pub(crate) fn neighbours_of(
     place: u32,
 ) -> Neighbours
     requires known { resource.0 < length timelines.now.orders }
-    requires numbers { All (λ id. id < length held.now) (order_on timelines.now.orders resource.0) }
+    requires numbers { All (λ id. id < length held.now)
+        (order_on timelines.now.orders resource.0) }
     ensures before { result.before
         ≡ held_before held.now (order_on timelines.now.orders resource.0) place }
     ensures behind { result.behind

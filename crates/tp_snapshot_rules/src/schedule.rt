@@ -85,7 +85,8 @@ fn are_clear(machine: &Machine, outs: Outs, now: Tick, acts: &[ActId], points: &
 }
 
 fn is_clear(machine: &Machine, standing: &Standing, plan: &Plan) -> bool
-    ensures { result ≡ is_clear machine.now (standing_state machine.now standing.entry.now) plan.now }
+    ensures { result
+        ≡ is_clear machine.now (standing_state machine.now standing.entry.now) plan.now }
 {
     let acts = plan.acts.as_slice();
     let points = plan.points.as_slice();

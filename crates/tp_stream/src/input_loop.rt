@@ -28,7 +28,8 @@ fn end_input<T: LineTaker, K: Sink>(
     ensures all { OnOk result (EndsIn T.answers limits.bytes limits.lines
         (place_of (T.state taker.old) count (K.taken sink.old)) line.now (T.state taker.new)
         (K.taken sink.new)) }
-    ensures stops { (left left' : Option (List ℕ)) → IsAtEnd left left' → IfErr result (λ stop.
+    ensures stops { (left left' : Option (List ℕ)) → IsAtEnd left left'
+        → IfErr result (λ stop.
         StopsBefore T.answers T.refuses limits.bytes limits.lines left left' stop line.now
         (place_of (T.state taker.old) count (K.taken sink.old)) (T.state taker.new)
         (K.taken sink.new)) }

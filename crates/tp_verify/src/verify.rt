@@ -32,7 +32,8 @@ pub fn verify_main<H: Shelf, S: Source, K: Sink>(
     sink: &mut K,
 ) -> VerifyStatus
     // Exactly if the words are not of the form. Then nothing is read or written.
-    ensures usage { result ≡ VerifyStatus.Usage ↔ (named_by (map string_bytes words.now) ≡ None) }
+    ensures usage { result ≡ VerifyStatus.Usage
+        ↔ (named_by (map string_bytes words.now) ≡ None) }
     ensures unused { result ≡ VerifyStatus.Usage
         → (source.new ≡ source.old) × (sink.new ≡ sink.old) }
 

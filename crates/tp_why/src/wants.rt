@@ -68,7 +68,8 @@ fn is_name_text(text: &str) -> bool
 /// Whether the text is one of the texts of the array at the key.
 #[tactic(auto, using(tp_machine_text::proofs::Seen::seen))]
 fn stands_in(table: &Table, key: &str, text: &str) -> bool
-    ensures { result ≡ is_text_among (map text_of_data (elements_at key.now (table_view table.now)))
+    ensures { result
+        ≡ is_text_among (map text_of_data (elements_at key.now (table_view table.now)))
         text.now }
 {
     has_text(values_at(table, key), text)

@@ -85,7 +85,8 @@ impl Front {
     /// Leaves no arrival.
     pub(crate) fn clear(&mut self)
         ensures waiting { self.new.waiting.items ≡ [] }
-        ensures taken { (s : StateValue) (tick : ℕ) → IsTaken self.new.taken.items s tick → ⊥ }
+        ensures taken { (s : StateValue) (tick : ℕ) → IsTaken self.new.taken.items s tick
+            → ⊥ }
     {
         self.arrivals.clear();
         self.waiting.clear();
@@ -104,7 +105,8 @@ impl Front {
 
     /// Notes an arrival at a state with this rest, unless all its ticks are taken there. Answers false where there is no room.
     pub(crate) fn offer(&mut self, arrival: Arrival, rest: Tick) -> bool
-        ensures reached { IsTrue result → (tick : ℕ) → arrival.from ≤ tick → tick ≤ arrival.till
+        ensures reached { IsTrue result → (tick : ℕ) → arrival.from ≤ tick
+            → tick ≤ arrival.till
             → IsReached self.new arrival.state tick }
         ensures grows { Grows self.old self.new }
         ensures keyed { (rests : List (Option ℕ)) → rest_of rests arrival.state ≡ Some rest
@@ -118,7 +120,8 @@ impl Front {
 
     /// Notes an arrival at a state with this rest. Answers false where there is no room.
     pub(crate) fn note(&mut self, arrival: Arrival, rest: Tick) -> bool
-        ensures waits { IsTrue result → (tick : ℕ) → arrival.from ≤ tick → tick ≤ arrival.till
+        ensures waits { IsTrue result → (tick : ℕ) → arrival.from ≤ tick
+            → tick ≤ arrival.till
             → Waits self.new.arrivals.items self.new.waiting.items arrival.state tick }
         ensures grows { Grows self.old self.new }
         ensures keyed { (rests : List (Option ℕ)) → rest_of rests arrival.state ≡ Some rest

@@ -147,7 +147,8 @@ fn in_gap(span: Span, row: Row<'_>, gap: usize) -> Option<Span>
 
 /// The earliest tick at which the hold ends.
 fn earliest_end(span: Span, rule: &HoldRule) -> i64
-    ensures { (start end : ℕ) → IsIn span start end → result ≤ℤ end_of rule.now start end }
+    ensures { (start end : ℕ) → IsIn span start end
+        → result ≤ℤ end_of rule.now start end }
 {
     let (_, end) = hold_ticks(rule, span.start_from, span.end_from);
     end
@@ -155,7 +156,8 @@ fn earliest_end(span: Span, rule: &HoldRule) -> i64
 
 /// The latest tick at which the hold begins.
 fn latest_begin(span: Span, rule: &HoldRule) -> i64
-    ensures { (start end : ℕ) → IsIn span start end → begin_of rule.now start end ≤ℤ result }
+    ensures { (start end : ℕ) → IsIn span start end
+        → begin_of rule.now start end ≤ℤ result }
 {
     let (begin, _) = hold_ticks(rule, span.start_till, span.end_till);
     begin

@@ -145,7 +145,8 @@ fn lower_one(
     requires known { number < length rests.old }
     ensures goals { KeepsGoals rests.old rests.new }
     ensures same { result ≡ false → rests.new ≡ rests.old }
-    ensures closed { result ≡ false → IsStepIn machine.now ask.entry.now rests.old act.0 number }
+    ensures closed { result ≡ false
+        → IsStepIn machine.now ask.entry.now rests.old act.0 number }
 {
     let action = machine.actions.get(act.0 as u32);
     let Some(next) = step(action, &ask.want, state_at(number)) else {

@@ -31,7 +31,8 @@ pub(crate) struct Sought<'a> {
 
 /// The ticks from one to another, if there are any.
 fn stay(from: u64, till: Tick) -> Option<Stay>
-    ensures { (tick : ℕ) → from ≤ tick → tick ≤ till → IsSomeAnd result (λ r. IsDuring r tick) }
+    ensures { (tick : ℕ) → from ≤ tick → tick ≤ till
+        → IsSomeAnd result (λ r. IsDuring r tick) }
 {
     if from > till as u64 {
         return None;
@@ -114,7 +115,8 @@ fn end_ahead(span: Span, before: Option<Tick>) -> Option<Span>
 
 /// The span with ends between those of the line.
 fn end_between(span: Span, after: Option<Tick>, before: Option<Tick>) -> Option<Span>
-    ensures { (start end : ℕ) → IsIn span start end → IsBehind after end → IsAhead before end
+    ensures { (start end : ℕ) → IsIn span start end → IsBehind after end
+        → IsAhead before end
         → IsSomeAnd result (λ r. IsIn r start end) }
 {
     match end_behind(span, after) {

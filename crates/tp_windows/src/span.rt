@@ -18,7 +18,8 @@ pub struct Span {
 
 /// The greater of a tick and a number that may lie outside the range of ticks, or none where no tick is as great.
 fn at_least(tick: Tick, least: i64) -> Option<Tick>
-    ensures { (x : ℕ) → tick ≤ x → least ≤ℤ pos x → x < 2 ^ 32 → IsSomeAnd result (λ r. r ≤ x) }
+    ensures { (x : ℕ) → tick ≤ x → least ≤ℤ pos x → x < 2 ^ 32
+        → IsSomeAnd result (λ r. r ≤ x) }
 {
     if least <= i64::from(tick) {
         return Some(tick);
@@ -44,7 +45,8 @@ fn at_most(tick: Tick, most: i64) -> Option<Tick>
 
 /// The span with a start and an end no sooner.
 fn from_on(span: Span, anchor: Anchor, least: i64) -> Option<Span>
-    ensures { (start end : ℕ) → IsIn span start end → least ≤ℤ pos (tick_of anchor start end)
+    ensures { (start end : ℕ) → IsIn span start end
+        → least ≤ℤ pos (tick_of anchor start end)
         → IsSomeAnd result (λ r. IsIn r start end) }
 {
     match anchor {
@@ -67,7 +69,8 @@ fn from_on(span: Span, anchor: Anchor, least: i64) -> Option<Span>
 
 /// The span with a start or an end no later.
 fn up_to(span: Span, anchor: Anchor, most: i64) -> Option<Span>
-    ensures { (start end : ℕ) → IsIn span start end → pos (tick_of anchor start end) ≤ℤ most
+    ensures { (start end : ℕ) → IsIn span start end
+        → pos (tick_of anchor start end) ≤ℤ most
         → IsSomeAnd result (λ r. IsIn r start end) }
 {
     match anchor {
@@ -180,7 +183,8 @@ fn lasts_most(span: Span, most: Tick) -> Option<Span>
 
 /// The span in which the action lasts from `least` to `most` ticks.
 pub fn lasts(span: Span, least: Tick, most: Tick) -> Option<Span>
-    ensures { (start end : ℕ) → IsIn span start end → start + least ≤ end → end ≤ start + most
+    ensures { (start end : ℕ) → IsIn span start end → start + least ≤ end
+        → end ≤ start + most
         → IsSomeAnd result (λ r. IsIn r start end) }
 {
     match lasts_least(span, least) {

@@ -40,7 +40,8 @@ pub(crate) struct Spread {
 fn later(time: Tick, from: Tick, weight: i64) -> Option<Tick>
     requires least { negsuc 999999 ≤ℤ weight }
     requires most { weight ≤ℤ pos most_weight }
-    ensures { (x y : ℕ) → from ≤ x → time ≤ y → (pos x +ℤ weight) ≤ℤ pos y → y < 2 ^ 32
+    ensures { (x y : ℕ) → from ≤ x → time ≤ y → (pos x +ℤ weight) ≤ℤ pos y
+        → y < 2 ^ 32
         → IsSomeAnd result (λ r. r ≤ y) }
 {
     let least = i64::from(from) + weight;

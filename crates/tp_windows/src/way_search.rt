@@ -89,7 +89,8 @@ fn begin_at_feeders(front: &mut Front, sought: Sought<'_>) -> bool
 
 /// Notes when a copy may begin. Answers false where there is no room.
 fn begin(front: &mut Front, sought: Sought<'_>) -> bool
-    ensures starts { IsTrue result → (s : StateValue) → AreStartsReached sought.entry s front.new }
+    ensures starts { IsTrue result → (s : StateValue)
+        → AreStartsReached sought.entry s front.new }
     ensures grows { Grows front.old front.new }
     ensures keyed { KeepsKeys sought.entry.rests.now.rests.items front.old front.new }
 {
@@ -188,7 +189,8 @@ fn spread(
     from: Arrival,
 ) -> bool
     requires rows { length sought.rows.now.rows ≡ length sought.machine.now.resources }
-    ensures reached { IsTrue result → (act : ℕ) → act < length sought.entry.machine.now.actions
+    ensures reached { IsTrue result → (act : ℕ)
+        → act < length sought.entry.machine.now.actions
         → AreStepsReached sought.entry from act front.new }
     ensures grows { Grows front.old front.new }
     ensures keyed { KeepsKeys sought.entry.rests.now.rests.items front.old front.new }
@@ -217,7 +219,8 @@ fn cut(front: &mut Front, first: Waiting, from: Arrival, stay: Stay) -> Opened
     ensures grows { Grows front.old front.new }
     ensures keyed { (rests : List (Option ℕ)) → rest_of rests from.state ≡ Some first.rest
         → KeepsKeys rests front.old front.new }
-    ensures rest { result ≡ Opened.Done → (tick : ℕ) → stay.till < tick → tick ≤ from.till
+    ensures rest { result ≡ Opened.Done → (tick : ℕ) → stay.till < tick
+        → tick ≤ from.till
         → Waits front.new.arrivals.items front.new.waiting.items from.state tick }
     ensures done { result ≡ Opened.Goal → ⊥ }
 {
