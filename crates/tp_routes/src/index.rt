@@ -6,8 +6,8 @@ ghost use Rattle.tp_routes.specs.Index.{AreIndexed, IsIndexOf, location_at, numb
 use std::alloc::{AllocError, Global};
 use tp_machine::{ActId, LocId, Machine};
 
-/// A machine has at most so many actions.
-const MOST_ACTIONS: usize = 512;
+/// A machine has at most so many actions: an index has room for so many.
+pub const MOST_ACTIONS: usize = 512;
 
 /// An end of an action: where it starts, or where it leads.
 #[derive(Clone, Copy)]
@@ -28,12 +28,12 @@ pub struct ActionIndex {
 impl ActionIndex {
     /// An index for machines with so many locations. It takes all the memory that it will ever need, and has no action before `fill`.
     pub fn new(alloc: Global, locations: u32) -> Result<ActionIndex, AllocError>
-        ensures locations { IfOk result (λ i. length i.firsts.items ≡ locations) }
-        ensures room { IfOk result (λ i. length i.nexts.items ≡ most_actions) }
+        ensures no_first { IfOk result (λ i. i.firsts.items ≡ replicate locations None) }
+        ensures no_next { IfOk result (λ i. i.nexts.items ≡ replicate most_actions None) }
     {
         Ok(ActionIndex {
-            firsts: vec![in alloc; None; locations as usize]?,
-            nexts: vec![in alloc; None; MOST_ACTIONS]?,
+            firsts: no_numbers(alloc, locations as usize)?,
+            nexts: no_numbers(alloc, MOST_ACTIONS)?,
         })
     }
 
@@ -66,6 +66,13 @@ impl ActionIndex {
             None => None,
         }
     }
+}
+
+/// A list of so many numbers that are not known yet.
+fn no_numbers(alloc: Global, count: usize) -> Result<Vec<Option<u16>>, AllocError>
+    ensures { IfOk result (λ v. v.items ≡ replicate count None) }
+{
+    vec![in alloc; None; count]
 }
 
 /// Finds the first action at each location, and behind each action the next one at the same

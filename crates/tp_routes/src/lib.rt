@@ -9,7 +9,7 @@ mod start_states;
 mod state_number;
 mod state_queue;
 
-pub use index::{ActEnd, ActionIndex};
+pub use index::{ActEnd, ActionIndex, MOST_ACTIONS};
 pub use laws::room_law;
 pub use rooms::Rooms;
 pub use state_number::{number_of, state_at};

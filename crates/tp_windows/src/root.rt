@@ -24,11 +24,8 @@ use std::alloc::{AllocError, Global};
 use tp_base::{Network, PointId, Tick};
 use tp_machine::Machine;
 use tp_placing::Board;
-use tp_routes::{ActEnd, ActionIndex};
+use tp_routes::{ActEnd, ActionIndex, MOST_ACTIONS};
 use tp_schedule::Ask;
-
-/// An index has room for so many actions.
-const MOST_ACTIONS: usize = 512;
 
 /// What a walk begins with: the edges of a board's network, the ranges of its points, the rests of states, the actions by where they
 /// start, and the ends beside the asked copy in its line.
