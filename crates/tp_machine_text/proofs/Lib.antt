@@ -32,3 +32,6 @@ pub mod PrintedTops
 pub mod PrintedRules
 pub mod Dateless
 pub mod PrintedText
+pub mod Found
+pub mod Clear
+pub mod RuleLaw

@@ -7,6 +7,10 @@ pub mod ActionRules
 pub mod HoldRules
 pub mod AmountRules
 pub mod Broken
+pub mod Slips
+pub mod Wants
+pub mod MachineSlips
+pub mod Phrases
 pub mod Kept
 pub mod TheMachine
 pub mod Texts

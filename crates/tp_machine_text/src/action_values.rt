@@ -9,7 +9,7 @@ ghost use Rattle.tp_machine_text.specs.ActionRules.{is_named, has_durations};
 ghost use Rattle.tp_machine_text.specs.HoldRules.{is_hold, has_holds, holds};
 ghost use Rattle.tp_machine_text.specs.TheMachine.{number_or, resource_of, hold_of, prints_word, truth_in, action_of};
 
-use crate::hold_rules::{holds_of, least_of, most_of, point_at};
+use crate::hold_points::{holds_of, least_of, most_of, point_at};
 use crate::lookup::{field, is_among, text_at, values_in, whole_of};
 use crate::supply_values::place_of_key;
 use crate::table_values::{loc_of, module_of, name_in};

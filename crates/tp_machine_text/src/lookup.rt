@@ -1,12 +1,12 @@
 //! Looking into a table of TOML: its values, and whether they are of a kind.
-ghost use Rattle.std.specs.Prelude.{◌≡◌, ℤ, map, option_map, string_bytes};
-ghost use Rattle.std.specs.List.{list_all, list_any};
+ghost use Rattle.std.specs.Prelude.{◌≡◌, length, map, option_map, string_bytes};
+ghost use Rattle.std.specs.List.{list_any};
 ghost use Rattle.std.specs.Str.{bytes_eq};
 ghost use Rattle.toml.specs.Data.{get_member, get};
 ghost use Rattle.toml.specs.View.{table_view, view};
 ghost use Rattle.tp_base.specs.NameText.{is_name_text};
 ghost use Rattle.std.specs.BTreeMap.{keys};
-ghost use Rattle.tp_machine_text.specs.Words.{elements_in, table_in, is_fit, text_at, whole_of, whole_at, keys_of, members_of, elements, elements_at, text_of, is_array, is_table, is_whole, is_name, is_among, is_one_of, are_different, are_names, are_from};
+ghost use Rattle.tp_machine_text.specs.Words.{elements_in, table_in, is_fit, text_at, whole_of, whole_at, keys_of, members_of, elements, elements_at, text_of, is_array, is_whole, is_among, is_one_of, are_different};
 
 use toml::{Table, Value};
 use tp_base::Name;
@@ -77,15 +77,6 @@ pub fn is_array_or_absent(value: Option<&Value>) -> bool
     }
 }
 
-pub(crate) fn is_table_or_absent(value: Option<&Value>) -> bool
-    ensures { result ≡ is_fit is_table (option_map (λ v. view v.now) value.entry) }
-{
-    match value {
-        Some(value) => value.is_table(),
-        None => true,
-    }
-}
-
 /// The text that a value is. Another value counts as the empty text.
 pub fn text_of(value: &Value) -> &str
     ensures { result.now ≡ text_of (view value.now) }
@@ -133,15 +124,6 @@ pub(crate) fn is_name_text(text: &str) -> bool
     ensures { result ≡ is_name_text text.now }
 {
     Name::read(text.as_bytes()).is_some()
-}
-
-pub(crate) fn is_name(value: &Value) -> bool
-    ensures { result ≡ is_name (view value.now) }
-{
-    match value.as_str() {
-        Some(text) => is_name_text(text),
-        None => false,
-    }
 }
 
 /// Whether the text is one of these values.
@@ -201,7 +183,7 @@ pub fn differ_at(values: &[Value], key: &str) -> bool
 }
 
 #[tactic(auto, using(crate::proofs::Seen::seen))]
-fn has_same_at(values: &[Value], key: &str, text: &str) -> bool
+pub(crate) fn has_same_at(values: &[Value], key: &str, text: &str) -> bool
     ensures { result ≡ is_among (map (text_at key.now) (map view values.now)) text.now }
 {
     is_any_at(values, key, text)
@@ -227,31 +209,22 @@ pub fn are_different(values: &[Value]) -> bool
     true
 }
 
+/// How many keys the table has that the value is.
 #[tactic(auto, using(crate::proofs::Seen::seen))]
-pub(crate) fn are_names(values: &[Value], most: usize) -> bool
-    ensures { result ≡ are_names most (map view values.now) }
+pub fn count_keys(value: Option<&Value>) -> usize
+    ensures { result ≡ length (keys_of (members_of
+        (table_in (option_map (λ v. view v.now) value.entry)))) }
 {
-    let counted = 1 <= values.len() && values.len() <= most;
-    counted && are_all_names(values) && are_different(values)
+    match table_in(value) {
+        Some(table) => table.len(),
+        None => 0,
+    }
 }
 
-fn are_all_names(values: &[Value]) -> bool
-    ensures { result ≡ list_all (λ v. is_name (view v)) values.now }
-{
-    values.iter().all(is_name)
-}
-
-/// Whether they are different texts among `texts`.
+/// How many values the array has that the value is.
 #[tactic(auto, using(crate::proofs::Seen::seen))]
-pub(crate) fn are_from(texts: &[Value], values: &[Value]) -> bool
-    ensures { result ≡ are_from (map text_of (map view texts.now)) (map view values.now) }
+pub fn count_items(value: Option<&Value>) -> usize
+    ensures { result ≡ length (elements_in (option_map (λ v. view v.now) value.entry)) }
 {
-    are_all_from(texts, values) && are_different(values)
-}
-
-fn are_all_from(texts: &[Value], values: &[Value]) -> bool
-    ensures { result ≡ list_all (λ v. is_one_of (map text_of (map view texts.now)) (view v))
-        values.now }
-{
-    values.iter().all(|value| is_one_of(texts, value))
+    values_in(value).len()
 }

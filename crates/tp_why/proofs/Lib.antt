@@ -1,4 +1,2 @@
-pub mod Found
-pub mod Clear
-pub mod RuleLaw
+pub mod Shown
 pub mod Told

@@ -4,9 +4,9 @@ use Rattle.std.specs.Fmt.{decimal}
 use Rattle.toml.specs.Data.{Members}
 use Rattle.tp_machine_text.specs.Broken.{first_broken}
 use Rattle.tp_machine_text.specs.Texts.{IsToml, IsNotToml, IsSound}
-use Rattle.tp_why.specs.MachineSlips.{first_slip}
+use Rattle.tp_machine_text.specs.MachineSlips.{first_slip}
 use Rattle.tp_why.specs.Sentences.{rule_text}
-use Rattle.tp_why.specs.declared.slip.Slip.{Slip}
+use Rattle.tp_machine_text.specs.declared.slip.Slip.{Slip}
 
 -- the line and the column, both from 1, to which the byte leads; a column counts characters
 abbrev pub step : ℕ × ℕ → ℕ → ℕ × ℕ

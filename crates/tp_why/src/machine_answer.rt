@@ -3,14 +3,13 @@ ghost use Rattle.std.specs.Prelude.{◌≡◌, ◌≤◌, ◌++◌, decimal, len
 ghost use Rattle.toml.specs.Errors.{IsWithin};
 ghost use Rattle.toml.specs.View.{table_view};
 ghost use Rattle.tp_why.specs.Answers.{place_from, place_after, not_toml_text, position_text, cause_text, place_text, told, NamesPlace, TellsMachine};
-ghost use Rattle.tp_why.specs.MachineSlips.{first_slip};
+ghost use Rattle.tp_machine_text.specs.MachineSlips.{first_slip};
 
-use crate::machine_slips::first_slip;
 use crate::sentence::put_slip;
-use crate::slip::Slip;
 use std::alloc::{AllocError, Global};
 use toml::Table;
 use toml::de::Error;
+use tp_machine_text::{Slip, first_slip};
 
 /// The line and the column after the bytes, both from 1. A column counts characters.
 fn place_after(before: &[u8]) -> (u64, u64)

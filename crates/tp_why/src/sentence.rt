@@ -5,14 +5,16 @@ ghost use Rattle.toml.specs.Data.{get_member};
 ghost use Rattle.toml.specs.View.{table_view, view};
 ghost use Rattle.tp_machine_text.specs.Keys.{actions};
 ghost use Rattle.tp_machine_text.specs.Words.{data_of, keys_of, members_of, text_in};
-ghost use Rattle.tp_why.specs.Slips.{key_text};
-ghost use Rattle.tp_why.specs.Sentences.{action_text, comma_before, hold_text, hold_in, is_plain as is_plain_byte, members_in, owner_in, part_text, quoted, said, shown, slip_text, table_key, text_number, value_text, wrong_text};
+ghost use Rattle.tp_machine_text.specs.Slips.{key_text};
+ghost use Rattle.tp_why.specs.Sentences.{action_text, comma_before, hold_text, hold_in, is_plain as is_plain_byte, members_in, owner_in, part_text, quoted, said, shown, slip_text, table_key, text_number, value_text};
+ghost use Rattle.tp_machine_text.specs.Phrases.{wrong_text};
 
-use crate::slip::{Key, Part, Slip, Wrong};
-use crate::wants::{count_items, count_keys};
 use std::alloc::AllocError;
 use toml::{Table, Value};
-use tp_machine_text::lookup::{field, table_in, text_of, value_at, values_at, values_in};
+use tp_machine_text::lookup::{
+    count_items, count_keys, field, table_in, text_of, value_at, values_at, values_in,
+};
+use tp_machine_text::{Key, Part, Slip, Wrong};
 
 fn is_plain(byte: u8) -> bool
     ensures { result ≡ is_plain_byte byte }

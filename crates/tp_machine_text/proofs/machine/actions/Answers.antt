@@ -1,12 +1,10 @@
-use Rattle.std.proofs.Common.{◌≡◌, ◌≤◌, true, length, map, option_map, ap, sym, subst, ◌∙◌}
+use Rattle.std.proofs.Common.{◌≡◌, ◌≤◌, true, length, option_map, ap, sym, subst, ◌∙◌}
 use Rattle.std.specs.Prelude.{codes}
 use Rattle.std.specs.List.{list_all}
 use Rattle.toml.specs.Data.{get_member}
 use Rattle.toml.specs.View.{table_view}
 use Rattle.tp_machine_text.specs.Words.{table_in, members_of, keys_of}
-use Rattle.tp_machine_text.specs.Keys as text
 use Rattle.tp_machine_text.specs.ActionRules.{is_named, has_durations}
-use Rattle.tp_machine_text.specs.HoldRules.{has_holds}
 use Rattle.tp_machine_text.proofs.KeptFacts.{few_locations, few_modules, few_resources, few_actions, actions_named, holds_kept}
 use Rattle.tp_machine_text.proofs.Given.{few_seen}
 use Rattle.tp_machine_text.proofs.machine.actions.Goals as goal

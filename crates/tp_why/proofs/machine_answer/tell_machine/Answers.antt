@@ -2,7 +2,7 @@ use Rattle.std.proofs.Common.{refl, string_bytes}
 use Rattle.std.proofs.lemmas.Result.{IfOk-weaker}
 use Rattle.toml.specs.View.{table_view}
 use Rattle.tp_why.specs.Answers.{TellsMachine}
-use Rattle.tp_why.specs.MachineSlips.{first_slip}
+use Rattle.tp_machine_text.specs.MachineSlips.{first_slip}
 use Rattle.tp_why.proofs.Told.{tells}
 use Rattle.tp_why.proofs.machine_answer.tell_machine.Goals as goal
 

@@ -1,6 +1,6 @@
 use Rattle.std.proofs.Common.{ap, ◌∙◌}
 use Rattle.std.specs.Prelude.{slice_get}
-use Rattle.tp_why.proofs.Found.{values_found}
+use Rattle.tp_machine_text.proofs.Found.{values_found}
 use Rattle.tp_why.proofs.sentence.amount_number.Goals as goal
 
 pub values-init : goal.values-init

@@ -1,6 +1,6 @@
 use Rattle.std.proofs.Common.{ap, ◌∙◌}
 use Rattle.tp_why.specs.Sentences.{text_number}
-use Rattle.tp_why.proofs.Found.{keys_named}
+use Rattle.tp_machine_text.proofs.Found.{keys_named}
 use Rattle.tp_why.proofs.sentence.key_number.Goals as goal
 
 pub keys-init : goal.keys-init

@@ -1,7 +1,7 @@
 use Rattle.std.proofs.Common.{◌≡◌, ◌++◌, ◌∙◌, OnOk, ap, string_bytes, subst}
 use Rattle.toml.specs.View.{array_view, table_view, view}
 use Rattle.toml.proofs.Views.{view-Array, view-Table}
-use Rattle.tp_why.proofs.Found.{array_shown, table_shown}
+use Rattle.tp_why.proofs.Shown.{array_shown, table_shown}
 use Rattle.tp_why.proofs.sentence.put_value.Goals as goal
 
 pub returns-in-Array : goal.returns-in-Array
