@@ -13,7 +13,6 @@ pub mod KeptFacts
 pub mod Named
 pub mod AmountFacts
 pub mod Sound
-pub mod AllowedAmounts
 pub mod Given
 pub mod OneTable
 pub mod OneMachine
