@@ -1,4 +1,4 @@
-//! Worked rows of machines and schedules: a crate of tests, with the machine texts and the worked scripts of all rows.
+//! Worked rows of machines and schedules: a crate of tests, with the machine texts of all rows.
 #![tactic(auto)]
 
 #[cfg(test)]
@@ -8,6 +8,3 @@ pub mod machines;
 mod prints;
 #[cfg(test)]
 mod schedules;
-#[cfg(test)]
-mod texts;
-pub mod worked;

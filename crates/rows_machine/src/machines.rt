@@ -130,11 +130,8 @@ least = 3
 most = 3
 "#;
 
-/// LINE with a second colour on its engine, and these gaps.
-macro_rules! gap_machine {
-    ($gaps:literal) => {
-        concat!(
-            r#"format = 2
+/// LINE with a second colour on its engine. A changeover takes 4 ticks.
+pub const GAP: &str = r#"format = 2
 lead = 2
 window = 200
 locations = ["f", "a", "b", "t", "p"]
@@ -145,9 +142,10 @@ purge = ["p"]
 [feeders]
 f = "plain"
 
-"#,
-            $gaps,
-            r#"[resources]
+[gaps]
+r2 = 4
+
+[resources]
 rf = "FEED"
 r2 = "ENG2"
 rt = "OUT"
@@ -197,19 +195,7 @@ from = "b"
 to = "p"
 least = 3
 most = 3
-"#
-        )
-    };
-}
-
-/// A changeover takes 4 ticks.
-pub const GAP: &str = gap_machine!("[gaps]\nr2 = 4\n\n");
-
-/// A changeover takes no time.
-pub const GAPLESS: &str = gap_machine!("");
-
-/// A changeover takes 10 ticks.
-pub const WIDE_GAP: &str = gap_machine!("[gaps]\nr2 = 10\n\n");
+"#;
 
 pub const TWIN: &str = r#"format = 1
 lead = 2

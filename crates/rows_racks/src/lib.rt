@@ -4,8 +4,4 @@
 #[cfg(test)]
 mod drawn_racks;
 #[cfg(test)]
-mod racks;
-#[cfg(test)]
 mod random_walks;
-#[cfg(test)]
-mod texts;

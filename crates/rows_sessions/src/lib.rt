@@ -14,8 +14,6 @@ mod records;
 #[cfg(test)]
 mod saved_snapshots;
 #[cfg(test)]
-mod scripts;
-#[cfg(test)]
 mod sessions;
 #[cfg(test)]
 mod soak_cases;

@@ -1,16 +1,12 @@
-//! The worked scripts, budgets and probes through a session.
-
+//! What a session keeps, and probes of it.
 ghost use Rattle.std.specs.Prelude.{◌≡◌, [], IfOk};
 ghost use Rattle.tp_script.specs.Printed.{IsEchoed};
 
 use rows_machine::machines::{DUO, LINE, machine_of};
-use rows_machine::worked::WORKED;
 use std::alloc::Global;
 use std::test::Fail;
-use tp_outside::{MemSink, MemSource};
 use tp_script::{Event, LineFault, read_printed};
 use tp_session::{Probe, Session, Settings};
-use tp_stream::answer_script;
 
 pub(crate) fn session_on(alloc: Global, text: &[u8], budget: Option<u32>) -> Result<Session, Fail>
     ensures { IfOk result (λ session. (session.answered ≡ 0) × (session.text ≡ [])) }
@@ -60,161 +56,6 @@ fn take_lines(alloc: Global, session: &mut Session, lines: &[&[u8]]) -> Result<(
 fn text_after(alloc: Global, session: &mut Session, lines: &[&[u8]]) -> Result<Vec<u8>, Fail> {
     take_lines(alloc, session, lines)?;
     Ok(session.text().to_vec(alloc)?)
-}
-
-/// Whether a fresh session answers the script as a stream of lines.
-fn is_answered(alloc: Global, session: Session, script: Vec<u8>, sink: &mut MemSink) -> bool
-    requires fresh { session.answered ≡ 0 }
-    requires clear { session.text ≡ [] }
-{
-    let mut source = MemSource::new(script, 7, Vec::new(alloc));
-    match answer_script(alloc, session, &mut source, sink) {
-        Ok(session) => {
-            drop(session);
-            true
-        }
-        Err(_) => false,
-    }
-}
-
-/// Has a session answer a script.
-fn answer(
-    alloc: Global,
-    text: &str,
-    budget: Option<u32>,
-    script: &[u8],
-    sink: &mut MemSink,
-) -> Result<(), Fail> {
-    let script = script.to_vec(alloc)?;
-    let session = session_on(alloc, text.as_bytes(), budget)?;
-    if is_answered(alloc, session, script, sink) {
-        Ok(())
-    } else {
-        Err(Fail::from("the script is not answered"))
-    }
-}
-
-/// The log of a script, which a session answers so.
-fn log_of(alloc: Global, text: &str, budget: Option<u32>, script: &[u8]) -> Result<Vec<u8>, Fail> {
-    let mut sink = MemSink::new(alloc, 65_536, 4096, Vec::new(alloc))
-        .ok()
-        .ok_or("memory")?;
-    answer(alloc, text, budget, script, &mut sink)?;
-    Ok(sink.bytes().to_vec(alloc)?)
-}
-
-#[test]
-fn worked_scripts(rt: HostRuntime) -> Result<(), Fail> {
-    for row in WORKED {
-        let log = log_of(rt.alloc(), row.machine, None, row.script)?;
-        assert_eq!(rt; log.as_slice(), row.log);
-    }
-    Ok(())
-}
-
-#[test]
-fn budgets(rt: HostRuntime) -> Result<(), Fail> {
-    let one = b"job j1 t plain M-:F\n";
-    let two = b"job j1 t plain 2*M-:F\n";
-    let rows: [(u32, &[u8], &[u8]); 5] = [
-        (1, one, b"> job j1 t plain M-:F\nbudget j1.1.1 t 14\n"),
-        (2, one, b"> job j1 t plain M-:F\nbudget j1.1.1 t 14\n"),
-        (
-            3,
-            one,
-            b"> job j1 t plain M-:F\nplan j1.1.1 t 3 feed 5 print2 11 out 14\n",
-        ),
-        (
-            3,
-            two,
-            b"> job j1 t plain 2*M-:F\n\
-              plan j1.1.1 t 3 feed 5 print2 11 out 14\n\
-              budget j1.2.1 t 15\n",
-        ),
-        (
-            4,
-            two,
-            b"> job j1 t plain 2*M-:F\n\
-              plan j1.1.1 t 3 feed 5 print2 11 out 14\n\
-              plan j1.2.1 t 3 feed 5 print1 14 out 17\n\
-              move j1.1.1 5 7 13 16\n",
-        ),
-    ];
-    for (budget, script, wanted) in rows {
-        let log = log_of(rt.alloc(), DUO, Some(budget), script)?;
-        assert_eq!(rt; log.as_slice(), wanted);
-    }
-    Ok(())
-}
-
-/// Two belts lead a sheet round, a tick each, and nothing holds them: it may go round while it waits for the engine.
-const ROUND: &str = r#"format = 1
-lead = 2
-window = 600
-locations = ["f", "c", "x", "a", "b", "t"]
-modules = ["FEED", "BELT", "ENG", "OUT"]
-trays = ["t"]
-[feeders]
-f = "plain"
-[resources]
-r = "ENG"
-rt = "OUT"
-[[actions]]
-name = "back"
-module = "BELT"
-from = "x"
-to = "c"
-least = 1
-most = 1
-[[actions]]
-name = "round"
-module = "BELT"
-from = "c"
-to = "x"
-least = 1
-most = 1
-[[actions]]
-name = "feed"
-module = "FEED"
-from = "f"
-to = "c"
-least = 2
-most = 4
-[[actions]]
-name = "move"
-module = "FEED"
-from = "c"
-to = "a"
-least = 1
-most = 2
-[[actions]]
-name = "print"
-module = "ENG"
-from = "a"
-to = "b"
-least = 6
-most = 8
-prints = ["mono"]
-holds = [{ resource = "r", begin = ["start", 0], end = ["end", 0] }]
-[[actions]]
-name = "out"
-module = "OUT"
-from = "b"
-to = "t"
-least = 3
-most = 30
-holds = [{ resource = "rt", begin = ["end", -1], end = ["end", 0] }]
-"#;
-
-#[test]
-fn no_sheet_goes_round_without_need(rt: HostRuntime) -> Result<(), Fail> {
-    let log = log_of(rt.alloc(), ROUND, None, b"job j1 t plain 3*M-:F\n")?;
-    let wanted: &[u8] = b"> job j1 t plain 3*M-:F\n\
-          plan j1.1.1 t 3 feed 5 move 6 print 12 out 15\n\
-          plan j1.2.1 t 6 feed 10 move 12 print 18 out 21\n\
-          plan j1.3.1 t 12 feed 16 move 18 print 24 out 27\n";
-    assert!(rt; log.as_slice() == wanted);
-    Ok(())
 }
 
 /// What is kept after a script: the moment, how many events came, and how many plans are live.

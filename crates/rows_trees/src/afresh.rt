@@ -5,7 +5,7 @@ ghost use Rattle.tp_search.specs.Engines.{EngineLasts};
 ghost use Rattle.tp_search.specs.Workspaces.{IsSpentOf};
 
 use crate::checks::machine_of;
-use crate::watched::take_script;
+use crate::taken_scripts::take_script;
 use rows_machine::machines::DUO;
 use std::alloc::Global;
 use std::test::Fail;

@@ -12,6 +12,6 @@ mod lines;
 #[cfg(test)]
 mod made;
 #[cfg(test)]
-mod texts;
+mod taken_scripts;
 #[cfg(test)]
-mod watched;
+mod texts;

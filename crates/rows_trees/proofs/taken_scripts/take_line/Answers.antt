@@ -4,7 +4,7 @@ use Rattle.tp_event_rules.specs.LiveStates.{seen}
 use Rattle.tp_event_rules.specs.Ready.{last_copy}
 use Rattle.tp_event_rules.proofs.ReadyTurns.{events-more}
 use Rattle.tp_event_rules.proofs.StockKept.{stock-more}
-use Rattle.rows_trees.proofs.watched.take_line.Goals as goal
+use Rattle.rows_trees.proofs.taken_scripts.take_line.Goals as goal
 
 pub take_event-requires-clause-can : goal.take_event-requires-clause-can
 take_event-requires-clause-can g c = events-more c.args.machine.now c.args.taken last_copy (seen c.args.state.now) (omega (arith, c.requires.few)) c.requires.can

@@ -1,7 +1,7 @@
 use Rattle.std.proofs.Common.{◌≤◌, length}
 use Rattle.tp_event_rules.specs.LiveStates.{seen}
 use Rattle.tp_event_rules.specs.Ready.{CanTakeEvents, KeepsStock}
-use Rattle.rows_trees.proofs.watched.take_script.Given as goal
+use Rattle.rows_trees.proofs.taken_scripts.take_script.Given as goal
 
 abbrev pub invariant-lines : goal.invariant-lines
 invariant-lines g l = record {

@@ -1,6 +1,6 @@
 use Rattle.std.proofs.Common.{arith, sym, subst}
 use Rattle.tp_event_rules.specs.Ready.{CanTakeEvents, KeepsStock}
-use Rattle.rows_trees.proofs.watched.take_script.Goals as goal
+use Rattle.rows_trees.proofs.taken_scripts.take_script.Goals as goal
 
 pub lines-init : goal.lines-init
 lines-init g c = record {
