@@ -12,9 +12,13 @@ _printer() {
 }
 _chart() {
     local word=${COMP_WORDS[COMP_CWORD]}
+    case ${COMP_WORDS[COMP_CWORD-1]} in
+    --machine) COMPREPLY=($(compgen -W '1 2 3 4 5 6 7 8' -- "$word")); return ;;
+    --from | --at) return ;;
+    esac
     case $word in
-    -*) COMPREPLY=($(compgen -W '--sheets --from --at' -- "$word")) ;;
-    *) COMPREPLY=($(compgen -f -X '!*.toml' -- "$word")) ;;
+    -*) COMPREPLY=($(compgen -W '--sheets --html --from --at --machine' -- "$word")) ;;
+    *) COMPREPLY=($(compgen -f -X '!*.@(toml|json)' -- "$word")) ;;
     esac
 }
 complete -o filenames -F _printer printer ./printer ./try

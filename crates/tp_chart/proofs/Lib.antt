@@ -1,2 +1,3 @@
 mod Ways
+mod OutSpans
 mod Plain

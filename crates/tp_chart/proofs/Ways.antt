@@ -69,6 +69,17 @@ planned-at copy f new ways i w at is = changed-at copy f ways i w at is ∙ sym 
 pub planned-none : (copy : SheetName) (f : Way → Way) (new : Way) (ways : List Way) → None ≡ position (λ q. is_same_copy q.sheet copy) ways → ways ++ new ∷ [] ≡ planned copy f new ways
 planned-none copy f new ways none = sym (none-planned copy f new ways (position-None_is (is_of copy) ways none))
 
+-- a way that is planned as it was
+same-planned : (copy : SheetName) (new : Way) (ways : List Way) → position_or_len (is_of copy) ways < length ways → ways ≡ planned copy (λ q. q) new ways
+same-planned copy new [] inside = absurd (omega (arith, inside))
+same-planned copy new (w ∷ ways) inside = go (is_same_copy w.sheet copy) refl (same-planned copy new ways) inside where
+  go : (b : Bool) → is_same_copy w.sheet copy ≡ b → (position_or_len (is_of copy) ways < length ways → ways ≡ planned copy (λ q. q) new ways) → position_or_len (is_of copy) (w ∷ ways) < length (w ∷ ways) → w ∷ ways ≡ planned copy (λ q. q) new (w ∷ ways)
+  go true e rest inside' = rw e refl
+  go false e rest inside' = let k = rw (e, one-add) at inside' in rw e (ap (λ ws. w ∷ ws) (rest (omega (arith, k))))
+
+pub planned-there : (copy : SheetName) (new : Way) (ways : List Way) {i : ℕ} → Some i ≡ position (λ q. is_same_copy q.sheet copy) ways → ways ≡ planned copy (λ q. q) new ways
+planned-there copy new ways {i} at = same-planned copy new ways (position-inside (is_of copy) ways i at)
+
 -- ---- keys
 
 prefix_len-map : {X Y : Type 0} (f : X → Y) (p : Y → Bool) (xs : List X) → prefix_len p (map f xs) ≡ prefix_len (λ x. p (f x)) xs

@@ -8,8 +8,11 @@ use Rattle.tp_machine.specs.declared.parts.HoldRule.{HoldRule}
 use Rattle.tp_machine.specs.declared.machine.Machine.{Machine}
 use Rattle.tp_schedule.specs.Holders.{holds_of_act}
 use Rattle.tp_chart.specs.Courses.{Way}
+use Rattle.tp_chart.specs.Rows.{row_of, rows_of}
+use Rattle.tp_chart.specs.Scenes.{Sight}
 use Rattle.tp_chart.specs.declared.bars.Bar.{Bar}
 use Rattle.tp_chart.specs.declared.action_runs.Run.{Run}
+use Rattle.tp_chart.specs.declared.row.Row.{Row}
 use Rattle.tp_chart.specs.declared.view.Scope.{Scope}
 use Rattle.tp_chart.specs.declared.view.View.{View}
 
@@ -61,17 +64,23 @@ action_bar row w run = record {
   row = row;
   begin = pos run.start;
   end = pos run.end;
+  resource = None;
+  mode = 0;
   sheet = w.sheet;
   act = run.act;
+  start = run.start;
+  stop = run.end;
   released = nat_le run.number w.released;
   is_lost = w.is_lost;
 }
 
 -- a hold of the action, on the row of its resource, half open
-abbrev pub hold_bar : Way → Run → HoldRule → Bar
-hold_bar w run h = record (action_bar h.resource.0 w run) {
+abbrev pub hold_bar : List Row → Way → Run → HoldRule → Bar
+hold_bar rows w run h = record (action_bar (row_of rows h.resource.0) w run) {
   begin = begin_of h run.start run.end;
   end = end_of h run.start run.end;
+  resource = Some h.resource.0;
+  mode = h.mode;
 }
 
 abbrev pub action_named : Machine → List ℕ → Option Action
@@ -81,19 +90,19 @@ abbrev pub holds_named : Machine → List ℕ → List HoldRule
 holds_named machine name = holds_of_act (action_named machine name)
 
 -- the bars of the holds of an action
-abbrev pub hold_bars_in : Option ℕ → Machine → Way → Run → List Bar
-hold_bars_in first machine w run = filter (is_in first) (map (hold_bar w run) (holds_named machine run.act))
+abbrev pub hold_bars_in : Option ℕ → Machine → List Row → Way → Run → List Bar
+hold_bars_in first machine rows w run = filter (is_in first) (map (hold_bar rows w run) (holds_named machine run.act))
 
 -- a bar for each hold of each action
-abbrev pub hold_bars : Option ℕ → Machine → Way → List Bar
-hold_bars first machine w = flat_map (hold_bars_in first machine w) (runs_of w)
+abbrev pub hold_bars : Option ℕ → Machine → List Row → Way → List Bar
+hold_bars first machine rows w = flat_map (hold_bars_in first machine rows w) (runs_of w)
 
 -- a bar for each action
 abbrev pub action_bars : Option ℕ → ℕ → Way → List Bar
 action_bars first row w = filter (is_in first) (map (action_bar row w) (runs_of w))
 
-abbrev pub way_bars : Scope → Machine → ℕ → Way → List Bar
-way_bars scope machine row w = if scope.by_copies then action_bars scope.first row w else hold_bars scope.first machine w
+abbrev pub way_bars : Scope → Machine → List Row → ℕ → Way → List Bar
+way_bars scope machine rows row w = if scope.by_copies then action_bars scope.first row w else hold_bars scope.first machine rows w
 
 -- ---- the bars of all ways
 
@@ -101,12 +110,13 @@ way_bars scope machine row w = if scope.by_copies then action_bars scope.first r
 abbrev pub row_behind : Option ℕ → ℕ → Way → ℕ
 row_behind first row w = if has_row first w then row + 1 else row
 
--- the bars of all ways in the scope: of their actions, a row for each copy, or else of their holds, a row for each resource. The
+-- the bars of all ways in the scope: of their actions, a row for each copy, or else of their holds, on the rows of resources. The
 -- first way has this row
-abbrev pub bars_from : Scope → Machine → ℕ → List Way → List Bar
-bars_from scope machine row [] = []
-bars_from scope machine row (w ∷ ways) = way_bars scope machine row w ++ bars_from scope machine (row_behind scope.first row w) ways
+abbrev pub bars_from : Scope → Machine → List Row → ℕ → List Way → List Bar
+bars_from scope machine rows row [] = []
+bars_from scope machine rows row (w ∷ ways) =
+    way_bars scope machine rows row w ++ bars_from scope machine rows (row_behind scope.first row w) ways
 
--- the bars of a picture that is viewed so
-abbrev pub bars_seen : View → Machine → List Way → List Bar
-bars_seen view machine ways = bars_from (scope_of view ways) machine 0 ways
+-- the bars of a picture of this schedule
+abbrev pub bars_seen : Scope → Machine → Sight → List Bar
+bars_seen scope machine s = bars_from scope machine (rows_of scope.first machine s.outages) 0 s.courses

@@ -1,7 +1,12 @@
 pub mod Courses
 pub mod Scenes
+pub mod Rows
+pub mod Starts
+pub mod Lines
 pub mod Bars
+pub mod Titles
 pub mod Pictures
+pub mod Pages
 pub mod Words
 pub mod Statuses
 pub mod Runs

@@ -1,5 +1,5 @@
--- The form of the words: [--sheets] [--from T] [--at T] MACHINE, as the library of command lines reads them.
-use Rattle.std.specs.Prelude.{ℕ, Bool, true, false, ◌==◌, nat_le, List, [], ◌∷◌, length, codes, find, Option, Some, None, option_map, map, if◌then◌else◌}
+-- The form of the words: [--sheets] [--html] [--from T] [--at T] [--machine K] MACHINE, as the library of command lines reads them.
+use Rattle.std.specs.Prelude.{ℕ, Bool, true, false, ◌&&◌, ◌==◌, nat_le, List, [], ◌∷◌, length, codes, find, Option, Some, None, option_map, map, if◌then◌else◌}
 use Rattle.std.specs.Str.{bytes_eq}
 use Rattle.std.specs.Borrow.{Bor}
 use Rattle.clap.specs.Words.{App, Kinds, Row, Rule, Text, fault_of, matches_of, new_app, new_rule, with_rule}
@@ -9,14 +9,14 @@ use Rattle.tp_words.specs.Numbers.{number_of}
 use Rattle.tp_chart.specs.declared.view.View.{View}
 use Rattle.tp_chart.specs.declared.words.ChartRequest as code
 
--- ---- the command: words, a flag `--sheets`, and options `--from` and `--at` with a value
+-- ---- the command: words, flags, and options with a value
 
 abbrev pub words_rule : Rule
 words_rule = record (new_rule (codes "words")) { action = Some Append }
 
-abbrev pub sheets_rule : Rule
-sheets_rule = record (new_rule (codes "sheets")) {
-  long = Some (codes "sheets");
+abbrev pub flag_rule : Text → Rule
+flag_rule id = record (new_rule id) {
+  long = Some id;
   action = Some Append;
   range = Some (record { start_inclusive = 0; end_inclusive = 0 });
   missing = codes "set" ∷ [];
@@ -32,20 +32,28 @@ bare = on_top (λ s. record s { no_binary_name = true; disable_help_flag = true 
 abbrev pub with_words : App
 with_words = with_rule bare words_rule
 
-abbrev pub with_flag : App
-with_flag = with_rule with_words sheets_rule
+abbrev pub with_sheets : App
+with_sheets = with_rule with_words (flag_rule (codes "sheets"))
+
+abbrev pub with_html : App
+with_html = with_rule with_sheets (flag_rule (codes "html"))
 
 abbrev pub with_from : App
-with_from = with_rule with_flag (option_rule (codes "from"))
+with_from = with_rule with_html (option_rule (codes "from"))
+
+abbrev pub with_at : App
+with_at = with_rule with_from (option_rule (codes "at"))
 
 abbrev pub chart : App
-chart = with_rule with_from (option_rule (codes "at"))
+chart = with_rule with_at (option_rule (codes "machine"))
 
 -- ---- what the words ask for
 
 pub record Asked : Type 0 where
   pub machine : List ℕ
   pub view : View
+  pub is_page : Bool
+  pub number : Option ℕ
 
 -- at most one tick is given: a number below 2 ^ 32 without leading zeros
 abbrev pub tick_of : List Text → Option (Option ℕ)
@@ -58,10 +66,16 @@ abbrev pub view_of : ℕ → Option (Option ℕ) → Option (Option ℕ) → Opt
 view_of sheets (Some from) (Some until) = if nat_le sheets 1 then Some (record { by_copies = sheets == 1; from = from; until = until }) else None
 view_of sheets _ _ = None
 
--- exactly one word is no option
-abbrev pub asked_at : List Text → Option View → Option Asked
-asked_at (machine ∷ []) view = option_map (λ view. record { machine = machine; view = view }) view
-asked_at _ view = None
+-- a farm has at most eight machines
+abbrev pub is_of_farm : Option ℕ → Bool
+is_of_farm None = true
+is_of_farm (Some number) = nat_le 1 number && nat_le number 8
+
+-- exactly one word is no option, and the flag for a page stands at most once
+abbrev pub asked_at : List Text → Option View → ℕ → Option (Option ℕ) → Option Asked
+asked_at (machine ∷ []) (Some view) pages (Some number) =
+    if nat_le pages 1 && is_of_farm number then Some (record { machine = machine; view = view; is_page = pages == 1; number = number }) else None
+asked_at _ view pages number = None
 
 -- the values of an id, if it has a row
 abbrev pub values_in : Text → List Row → Option (List Text)
@@ -78,7 +92,8 @@ abbrev pub view_in : List Row → Option View
 view_in rows = view_of (length (values_of (codes "sheets") rows)) (tick_of (values_of (codes "from") rows)) (tick_of (values_of (codes "at") rows))
 
 abbrev pub asked_in : List Row → Option Asked
-asked_in rows = asked_at (values_of (codes "words") rows) (view_in rows)
+asked_in rows =
+    asked_at (values_of (codes "words") rows) (view_in rows) (length (values_of (codes "html") rows)) (tick_of (values_of (codes "machine") rows))
 
 abbrev pub is_none : Kinds → Bool
 is_none [] = true
@@ -90,7 +105,7 @@ chart_asked words = if is_none (fault_of chart words) then asked_in (matches_of 
 
 -- a request as its texts and numbers
 abbrev pub seen : code.ChartRequest → Asked
-seen r = record { machine = r.machine.now; view = r.view }
+seen r = record { machine = r.machine.now; view = r.view; is_page = r.is_page; number = r.number }
 
 -- what references to texts point to
 abbrev pub shown : List (Bor Text) → List Text

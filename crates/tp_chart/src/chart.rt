@@ -1,22 +1,21 @@
 //! A run, from the words to the bytes of the picture.
-ghost use Rattle.std.specs.Prelude.{◌≡◌, ◌≢◌, ◌⊎◌, ℕ, ◌<◌, None, length, map, string_bytes, IfSome, IsFalse};
+ghost use Rattle.std.specs.Prelude.{◌≡◌, ◌⊎◌, ℕ, ◌<◌, None, length, map, string_bytes, IfSome, IsFalse, IsTrue};
 ghost use Rattle.tp_log.specs.Logs.{IsFirstOff};
-ghost use Rattle.tp_machine_text.specs.Texts.{IsBrokenAt, IsNotToml};
 ghost use Rattle.tp_outside.specs.Outside.{Rises};
-ghost use Rattle.tp_chart.specs.Runs.{IsCharted, NamesLongText, NamesText, may_have_written, most_log};
+ghost use Rattle.tp_chart.specs.Runs.{IsCharted, IsRefused, NamesLongText, NamesText, OfLog, is_refusal, may_have_written, most_log};
 ghost use Rattle.tp_chart.specs.Words.{chart_asked};
 
 use crate::chart_status::{ChartStatus, LongText};
 use crate::log_picture::show;
-use crate::machine::find_machine;
+use crate::named_start::find_start;
+use crate::page::{PAGE_FOOT, PAGE_HEAD};
 use crate::words::{ChartWordsFault, read_words};
 use std::alloc::Global;
-use tp_machine_text::MachineFault;
 use tp_outside::{Shelf, Sink, Source};
 
-/// Runs the words, given without the program's name, over this outside: reads the machine text that they name, then the log
-/// of the source, and writes the picture. The first check that fails ends the run: the words; the shelf, the length and the
-/// rules of the machine text; the source, the length and the lines of the log; the sink.
+/// Runs the words, given without the program's name, over this outside: reads the machine text or the snapshot that they name,
+/// then the log of the source, and writes the picture, or a page with it. The first check that fails ends the run: the words; the
+/// shelf, the length and the rules of the machine text or the snapshot; the source, the length and the lines of the log; the sink.
 pub fn chart_main<H: Shelf, S: Source, K: Sink>(
     alloc: Global,
     words: &[String],
@@ -30,20 +29,17 @@ pub fn chart_main<H: Shelf, S: Source, K: Sink>(
     ensures used { chart_asked (map string_bytes words.now) ≡ None
         → (result ≡ ChartStatus.Usage) ⊎ (result ≡ ChartStatus.Memory) }
 
-    // The machine text is too long, or is none.
+    // The machine text or the snapshot is too long, or is none, for the cause that the status says.
     ensures long_text { result ≡ ChartStatus.TooLong LongText.MachineText
         → NamesLongText (map string_bytes words.now) (H.known shelf.old) }
-    ensures not_toml { result ≡ ChartStatus.Machine MachineFault.NotToml
-        → NamesText (map string_bytes words.now) (H.known shelf.old) IsNotToml }
-    ensures rule { (n : ℕ) → result ≡ ChartStatus.Machine (MachineFault.Rule n)
-        → NamesText (map string_bytes words.now) (H.known shelf.old) (IsBrokenAt n) }
-    ensures no_memory { result ≢ ChartStatus.Machine MachineFault.Memory }
+    ensures refused { IsTrue (is_refusal result)
+        → NamesText (map string_bytes words.now) (H.known shelf.old) (IsRefused result) }
 
     // The log is too long, or a line of it is off the grammar.
     ensures long_log { result ≡ ChartStatus.TooLong LongText.Log
         → IfSome (S.left source.old) (λ bytes. most_log < length bytes) }
     ensures line { (n : ℕ) → result ≡ ChartStatus.Line n
-        → IfSome (S.left source.old) (IsFirstOff n) }
+        → OfLog (map string_bytes words.now) (S.left source.old) (IsFirstOff n) }
 
     // The outside failed.
     ensures shelf { result ≡ ChartStatus.Shelf
@@ -57,7 +53,7 @@ pub fn chart_main<H: Shelf, S: Source, K: Sink>(
 
     // The bars of the picture are those of the log's schedule.
     ensures done { result ≡ ChartStatus.Done
-        → IsCharted (map string_bytes words.now) (H.known shelf.old)
+        → IsCharted (map string_bytes words.now) (H.known shelf.old) PAGE_HEAD.now PAGE_FOOT.now
         (S.left source.old) (K.taken sink.old) (K.taken sink.new) }
 {
     let request = match read_words(alloc, words) {
@@ -65,8 +61,8 @@ pub fn chart_main<H: Shelf, S: Source, K: Sink>(
         Err(ChartWordsFault::Memory) => return ChartStatus::Memory,
         Err(ChartWordsFault::Usage) => return ChartStatus::Usage,
     };
-    match find_machine(alloc, shelf, request.machine) {
-        Ok(machine) => show(alloc, &machine, &request.view, source, sink),
+    match find_start(alloc, shelf, request.machine) {
+        Ok(start) => show(alloc, start, &request, source, sink),
         Err(status) => status,
     }
 }

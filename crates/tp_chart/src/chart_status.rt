@@ -4,11 +4,12 @@ ghost use Rattle.tp_chart.specs.Statuses.{status_number};
 
 use std::fmt;
 use tp_machine_text::MachineFault;
+use tp_snapshot::SnapFault;
 
 /// What is too long.
 #[derive(Clone, Copy, Debug, PartialEq, Eq)]
 pub enum LongText {
-    /// The machine text has more than 1,048,576 bytes.
+    /// The machine text has more than 1,048,576 bytes, or the snapshot more than 134,217,728.
     MachineText,
     /// The log has more than 1,073,741,824 bytes.
     Log,
@@ -31,10 +32,12 @@ pub enum ChartStatus {
     Source,
     /// The sink failed.
     Sink,
-    /// The machine text or the log is longer than it may be.
+    /// The machine text, the snapshot or the log is longer than it may be.
     TooLong(LongText),
     /// The line of this number, counted from 1, is the first that is off the grammar of logs.
     Line(u64),
+    /// The snapshot is not JSON, or breaks a rule. It never holds `Memory`.
+    Snapshot(SnapFault),
 }
 
 impl ChartStatus {
@@ -52,6 +55,7 @@ impl ChartStatus {
             ChartStatus::Sink => 6,
             ChartStatus::TooLong(_) => 7,
             ChartStatus::Line(_) => 8,
+            ChartStatus::Snapshot(_) => 9,
         }
     }
 }
@@ -67,7 +71,7 @@ impl fmt::Display for ChartStatus {
             ChartStatus::Done => Ok(()),
             ChartStatus::Memory => f.write_str("chart: out of memory"),
             ChartStatus::Usage => f.write_str(
-                "chart: usage: chart [--sheets] [--from T] [--at T] MACHINE",
+                "chart: usage: chart [--sheets] [--html] [--from T] [--at T] [--machine K] MACHINE",
             ),
             ChartStatus::Machine(MachineFault::Memory) => f.write_str(
                 "chart: machine: out of memory",
@@ -79,6 +83,11 @@ impl fmt::Display for ChartStatus {
             ChartStatus::Sink => f.write_str("chart: cannot write the output"),
             ChartStatus::TooLong(_) => f.write_str("chart: input too long"),
             ChartStatus::Line(n) => write!(f, "chart: line {n}: not a line of a log"),
+            ChartStatus::Snapshot(SnapFault::Memory) => f.write_str(
+                "chart: snapshot: out of memory",
+            ),
+            ChartStatus::Snapshot(SnapFault::NotJson) => f.write_str("chart: snapshot: not JSON"),
+            ChartStatus::Snapshot(SnapFault::Rule(n)) => write!(f, "chart: snapshot: rule {n}"),
         }
     }
 }

@@ -1,11 +1,17 @@
 //! The way of a copy in time, as a log tells it.
-ghost use Rattle.std.specs.Prelude.{◌≡◌, ◌≤◌, ℕ, count_by, nat_le, min, IfOk, OnOk};
+ghost use Rattle.std.specs.Prelude.{◌≡◌, ◌≤◌, ℕ, count_by, map, nat_le, min, All, IfOk, OnOk};
 ghost use Rattle.tp_chart.specs.Courses.{fresh, tell_course, cut_course, joined};
+ghost use Rattle.tp_event_records.specs.RecordNames.{IsKnown};
+ghost use Rattle.tp_event_rules.specs.Labels.{action_name};
+ghost use Rattle.tp_schedule.specs.Plans.{IsTimedPlan};
+ghost use Rattle.tp_chart.specs.Starts.{way_of};
 
 use std::alloc::Global;
 use std::marker::Model;
 use tp_base::{Memory, Name, Tick};
-use tp_schedule::{Record, SheetName};
+use tp_event_records::{action_name, end_name, label};
+use tp_machine::{ActId, Machine};
+use tp_schedule::{Kind, Plan, Record, SheetName};
 
 /// The way of a copy in time: action i runs from point i - 1 to point i. The first `released` actions are released.
 #[derive(Drop)]
@@ -42,7 +48,35 @@ fn count_started(moment: Tick, points: &[Tick]) -> usize
     points.iter().filter(|point| **point <= moment).count()
 }
 
+/// The names of the machine's actions.
+fn names_of(alloc: Global, machine: &Machine, acts: &[ActId]) -> Result<Vec<Name>, Memory>
+    requires { All (IsKnown machine.now) acts.now }
+    ensures { IfOk result (λ names. names.items ≡ map (action_name machine.now) acts.now) }
+{
+    let mut names = Vec::new(alloc);
+    for act in acts {
+        names.push(action_name(machine, *act))?;
+    }
+    Ok(names)
+}
+
 impl Course {
+    /// The course of a live plan.
+    pub(crate) fn of_plan(alloc: Global, machine: &Machine, plan: &Plan) -> Result<Course, Memory>
+        requires { IsTimedPlan machine.now plan.now }
+        ensures { IfOk result (λ c. c ≡ way_of machine.now plan.now) }
+    {
+        Ok(Course {
+            sheet: label(plan.name, plan.sheet),
+            location: end_name(machine, plan),
+            points: Vec::from_slice(alloc, plan.points.as_slice())?,
+            acts: names_of(alloc, machine, plan.acts.as_slice())?,
+            released: plan.released as usize,
+            is_lost: plan.kind == Kind::Front,
+            done: None,
+        })
+    }
+
     /// The course of a plan, none of whose actions is released.
     pub(crate) fn new(
         alloc: Global,

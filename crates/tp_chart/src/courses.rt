@@ -1,7 +1,8 @@
 //! The courses of copies, which are looked up by hash.
 ghost use Rattle.std.specs.Prelude.{◌≡◌, [], ◌∷◌, ◌++◌, None, Some, map, position, OnOk};
 ghost use Rattle.tp_chart.specs.Courses.{fresh, is_same_copy, joined, key_of, tell_course};
-ghost use Rattle.tp_chart.specs.Scenes.{changed, planned, without};
+ghost use Rattle.tp_chart.specs.Scenes.{changed, has_way, planned, without};
+ghost use Rattle.tp_chart.specs.Starts.{with_way};
 
 use crate::copy_key::CopyKey;
 use crate::course::Course;
@@ -30,6 +31,25 @@ impl Model for Courses {
     ghost invariant = { λ c. c.keys.keys ≡ map (λ w. key_of w.sheet) c.list.items };
 }
 
+/// The course of a copy that has none goes last.
+fn add_new(
+    keys: &mut IndexSet<CopyKey>,
+    list: &mut Vec<Course>,
+    sheet: &SheetName,
+    course: Course,
+) -> Result<(), Memory>
+    requires keys { keys.old.keys ≡ map (λ w. key_of w.sheet) list.old.items }
+    requires is_new { None ≡ position (λ w. is_same_copy w.sheet sheet.now) list.old.items }
+    requires same { course.sheet ≡ sheet.now }
+    ensures keys { keys.new.keys ≡ map (λ w. key_of w.sheet) list.new.items }
+    ensures list { OnOk result (list.new.items ≡ list.old.items ++ course ∷ []) }
+{
+    list.reserve(1)?;
+    keys.insert(CopyKey::of(sheet))?;
+    list.push_reserved(course);
+    Ok(())
+}
+
 /// A plan of a copy that has no course begins one.
 fn begin(
     keys: &mut IndexSet<CopyKey>,
@@ -45,11 +65,8 @@ fn begin(
     ensures list { OnOk result (list.new.items
         ≡ list.old.items ++ fresh sheet.now location points.now acts.now ∷ []) }
 {
-    list.reserve(1)?;
     let course = Course::new(*list.allocator(), sheet, location, points, acts)?;
-    keys.insert(CopyKey::of(sheet))?;
-    list.push_reserved(course);
-    Ok(())
+    add_new(keys, list, sheet, course)
 }
 
 /// The record changes the course at the place of the copy.
@@ -122,6 +139,12 @@ impl Courses {
         self.keys.get_index_of(&CopyKey::of(sheet))
     }
 
+    pub(crate) fn has(&self, sheet: &SheetName) -> bool
+        ensures { result ≡ has_way sheet.now self.now }
+    {
+        self.find(sheet).is_some()
+    }
+
     /// The record changes the course of its copy, if it has one.
     pub(crate) fn change(
         &mut self,
@@ -160,6 +183,17 @@ impl Courses {
                 points,
                 acts,
             ),
+        }
+    }
+
+    /// One more course, last, if the copy has none.
+    pub(crate) fn add(&mut self, course: Course) -> Result<(), Memory>
+        ensures { OnOk result (self.new ≡ with_way self.old course) }
+    {
+        let sheet = *course.sheet();
+        match self.find(&sheet) {
+            Some(_) => Ok(()),
+            None => add_new(&mut self.keys, &mut self.list, &sheet, course),
         }
     }
 

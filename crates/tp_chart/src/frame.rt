@@ -1,10 +1,12 @@
 //! Where the parts of a picture stand, in pixels and in ticks.
+ghost use Rattle.std.specs.Prelude.{◌≡◌};
+
 use crate::bars::Bar;
 use crate::course::Course;
+use crate::row::Row;
 use crate::scene::Scene;
 use crate::view::{Scope, has_row};
 use tp_base::Tick;
-use tp_machine::Machine;
 
 /// The height of a row, in pixels.
 pub(crate) const ROW: u64 = 20;
@@ -14,6 +16,9 @@ pub(crate) const HEAD: u64 = 96;
 
 /// The width of a letter.
 pub(crate) const LETTER: u64 = 8;
+
+/// The width of a letter of the title.
+const TITLE_LETTER: u64 = 9;
 
 /// The width of a picture's times if they are few, in millionths of a pixel.
 const FEW: u64 = 960_000_000;
@@ -73,6 +78,7 @@ pub(crate) struct AxisFrame {
     pub(crate) left: u64,
     pub(crate) label: u64,
     pub(crate) rows: u64,
+    pub(crate) title: u64,
 }
 
 /// The first and the last tick of bars and deliveries.
@@ -136,14 +142,17 @@ fn round_down(tick: i64, step: i64) -> i64 {
 }
 
 impl AxisFrame {
-    /// The frame of a picture with so many rows, whose longest name has so many letters.
+    /// The frame of a picture with so many rows, whose longest name has so many letters, and its title too.
     pub(crate) fn of(
         scope: &Scope,
         scene: &Scene,
         bars: &[Bar],
         rows: u64,
         letters: u64,
-    ) -> AxisFrame {
+        title: u64,
+    ) -> AxisFrame
+        ensures { result.scope ≡ scope.now }
+    {
         let (first, last) = extent(scope, scene, bars);
         let step = step_of(scale_of(ticks_between(first, last)));
         let first = match scope.first {
@@ -160,6 +169,7 @@ impl AxisFrame {
             left: label.saturating_add(24),
             label,
             rows,
+            title: title.saturating_mul(TITLE_LETTER).saturating_add(32),
         }
     }
 
@@ -209,7 +219,7 @@ impl AxisFrame {
         self.right()
             .saturating_add(beside)
             .saturating_add(16)
-            .max(720)
+            .max(self.title)
     }
 }
 
@@ -223,11 +233,11 @@ fn count_copies(first: Option<Tick>, courses: &[Course]) -> u64 {
     rows
 }
 
-/// How many rows there are: one for each copy, or else one for each resource, tray and purge tray.
-pub(crate) fn count_rows(scope: &Scope, machine: &Machine, scene: &Scene) -> u64 {
+/// How many rows there are: one for each copy, or else those of the machine.
+pub(crate) fn count_rows(scope: &Scope, rows: &[Row], scene: &Scene) -> u64 {
     if scope.by_copies {
-        return count_copies(scope.first, scene.courses());
+        count_copies(scope.first, scene.courses())
+    } else {
+        rows.len() as u64
     }
-    let trays = u64::from(machine.trays.len()).saturating_add(u64::from(machine.purges.len()));
-    u64::from(machine.resources.len()).saturating_add(trays)
 }

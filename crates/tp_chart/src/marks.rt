@@ -1,13 +1,13 @@
 //! The text of a bar.
-ghost use Rattle.std.specs.Prelude.{◌≡◌, ◌++◌, flat_map, OnOk, decimal};
+ghost use Rattle.std.specs.Prelude.{◌≡◌, ◌++◌, flat_map, option_map, OnOk, decimal};
 ghost use Rattle.std.specs.Fmt.{signed_decimal};
-ghost use Rattle.tp_chart.specs.Pictures.{bar_text, colour_of, cross_text, end_text, kind_of, names_text, shape_text, start_text, ticks_text};
+ghost use Rattle.tp_chart.specs.Pictures.{action_text, bar_text, colour_of, cross_text, end_text, foot_text, held_text, kind_of, name_text, names_text, shape_text, start_text, stripe_text, ticks_text};
 
 use crate::bars::Bar;
 use crate::top::COLOURS;
 use tp_base::{Memory, Name};
 use tp_bounds::put_sheet;
-use tp_machine::Names;
+use tp_machine::{Machine, Names, Resource};
 use tp_words::put_word;
 
 /// The number of a job's colour.
@@ -27,7 +27,7 @@ fn kind_of(bar: &Bar) -> &'static str
 }
 
 /// Writes a number behind a text.
-fn put_count(out: &mut Vec<u8>, lead: &str, count: usize) -> Result<(), Memory>
+pub(crate) fn put_count(out: &mut Vec<u8>, lead: &str, count: usize) -> Result<(), Memory>
     ensures { OnOk result (out.new.items ≡ out.old.items ++ (lead.now ++ decimal count)) }
 {
     out.extend_from_slice(lead.as_bytes())?;
@@ -60,6 +60,20 @@ fn put_shape(out: &mut Vec<u8>, bar: &Bar) -> Result<(), Memory>
     Ok(())
 }
 
+/// Writes the shape of the stripe in the foot of a bar.
+#[tactic(auto, unfolding(crate::specs::Pictures::foot_text))]
+fn put_foot(out: &mut Vec<u8>, bar: &Bar) -> Result<(), Memory>
+    ensures { OnOk result (out.new.items ≡ out.old.items ++ foot_text bar.now) }
+{
+    put_tick(out, "M", bar.begin)?;
+    put_count(out, " ", bar.row)?;
+    put_tick(out, ".7H", bar.end)?;
+    put_count(out, "V", bar.row)?;
+    put_tick(out, ".85H", bar.begin)?;
+    out.push(b'z')?;
+    Ok(())
+}
+
 #[tactic(auto, unfolding(crate::specs::Pictures::start_text))]
 fn put_start(out: &mut Vec<u8>, colour: usize, bar: &Bar) -> Result<(), Memory>
     ensures { OnOk result (out.new.items ≡ out.old.items ++ start_text colour bar.now) }
@@ -82,11 +96,33 @@ fn put_names(out: &mut Vec<u8>, bar: &Bar) -> Result<(), Memory>
 }
 
 #[tactic(auto, unfolding(crate::specs::Pictures::end_text))]
-fn put_end(out: &mut Vec<u8>) -> Result<(), Memory>
+pub(crate) fn put_end(out: &mut Vec<u8>) -> Result<(), Memory>
     ensures { OnOk result (out.new.items ≡ out.old.items ++ end_text) }
 {
     out.extend_from_slice(b"</title></path>\n")?;
     Ok(())
+}
+
+fn put_resource(out: &mut Vec<u8>, resource: Option<&Resource>) -> Result<(), Memory>
+    ensures { OnOk result (out.new.items
+        ≡ out.old.items ++ name_text (option_map (λ r. r.now) resource.entry)) }
+{
+    if let Some(resource) = resource {
+        out.extend_from_slice(b" holds")?;
+        put_word(out, resource.name.as_bytes())?;
+    }
+    Ok(())
+}
+
+/// Writes the resource of a hold.
+#[tactic(auto, unfolding(crate::specs::Pictures::held_text))]
+fn put_held(out: &mut Vec<u8>, machine: &Machine, resource: Option<u16>) -> Result<(), Memory>
+    ensures { OnOk result (out.new.items ≡ out.old.items ++ held_text machine.now resource) }
+{
+    match resource {
+        Some(at) => put_resource(out, machine.resources.as_slice().get(usize::from(at))),
+        None => Ok(()),
+    }
 }
 
 #[tactic(auto, unfolding(crate::specs::Pictures::ticks_text))]
@@ -96,8 +132,32 @@ fn put_ticks(out: &mut Vec<u8>, bar: &Bar) -> Result<(), Memory>
     let begin = bar.begin;
     let end = bar.end;
     put_tick(out, " ", begin)?;
-    put_tick(out, " to ", end)?;
-    put_end(out)
+    put_tick(out, " to ", end)
+}
+
+/// Writes the ticks of the action of a hold.
+#[tactic(auto, unfolding(crate::specs::Pictures::action_text))]
+fn put_action(out: &mut Vec<u8>, bar: &Bar) -> Result<(), Memory>
+    ensures { OnOk result (out.new.items ≡ out.old.items ++ action_text bar.now) }
+{
+    if bar.resource.is_some() {
+        put_count(out, ", action ", bar.start as usize)?;
+        put_count(out, " to ", bar.stop as usize)?;
+    }
+    Ok(())
+}
+
+/// Writes the stripe in the foot of a hold that has a mode above 0.
+#[tactic(auto, unfolding(crate::specs::Pictures::stripe_text))]
+fn put_stripe(out: &mut Vec<u8>, bar: &Bar) -> Result<(), Memory>
+    ensures { OnOk result (out.new.items ≡ out.old.items ++ stripe_text bar.now) }
+{
+    if bar.mode > 0 {
+        out.extend_from_slice(b"<path class=\"mode\" d=\"")?;
+        put_foot(out, bar)?;
+        out.extend_from_slice(b"\"/>\n")?;
+    }
+    Ok(())
 }
 
 /// Writes the cross over a bar of a lost copy.
@@ -113,25 +173,34 @@ fn put_cross(out: &mut Vec<u8>, bar: &Bar) -> Result<(), Memory>
     Ok(())
 }
 
-/// Writes a bar in the colour of its job, with its copy, action and ticks in the title.
+/// Writes a bar in the colour of its job, with its copy, action, resource and ticks in the title.
 #[tactic(auto, unfolding(crate::specs::Pictures::bar_text))]
-fn put_bar(out: &mut Vec<u8>, jobs: &Names, bar: &Bar) -> Result<(), Memory>
+fn put_bar(out: &mut Vec<u8>, machine: &Machine, jobs: &Names, bar: &Bar) -> Result<(), Memory>
     ensures { OnOk result (out.new.items
-        ≡ out.old.items ++ bar_text (colour_of jobs.now) bar.now) }
+        ≡ out.old.items ++ bar_text machine.now (colour_of jobs.now) bar.now) }
 {
     put_start(out, colour_of(jobs, &bar.sheet.job), bar)?;
     put_names(out, bar)?;
+    put_held(out, machine, bar.resource)?;
     put_ticks(out, bar)?;
+    put_action(out, bar)?;
+    put_end(out)?;
+    put_stripe(out, bar)?;
     put_cross(out, bar)
 }
 
 /// Writes the bars in turn.
-pub(crate) fn put_bars(out: &mut Vec<u8>, jobs: &Names, bars: &[Bar]) -> Result<(), Memory>
-    ensures { OnOk result (out.new.items
-        ≡ out.old.items ++ flat_map (bar_text (colour_of jobs.now)) bars.now) }
+pub(crate) fn put_bars(
+    out: &mut Vec<u8>,
+    machine: &Machine,
+    jobs: &Names,
+    bars: &[Bar],
+) -> Result<(), Memory>
+    ensures { OnOk result (out.new.items ≡ out.old.items
+        ++ flat_map (bar_text machine.now (colour_of jobs.now)) bars.now) }
 {
     for bar in bars {
-        put_bar(out, jobs, bar)?;
+        put_bar(out, machine, jobs, bar)?;
     }
     Ok(())
 }

@@ -5,10 +5,20 @@ ghost use Rattle.tp_chart.specs.Scenes.{ended, is_out, is_out_in};
 use std::alloc::{AllocError, Global};
 use tp_base::Tick;
 
+/// Why a module is out: it jammed, was put off, jammed with a copy that had no way on, or was out where the log begins.
+#[derive(Clone, Copy, PartialEq, Eq, Debug)]
+pub enum OutKind {
+    Jam,
+    Off,
+    Stuck,
+    Saved,
+}
+
 /// A time in which a module is out. `number` is the module's place in the machine's list; without an end it is out still.
 #[derive(Clone, Copy, PartialEq, Eq, Debug)]
 pub struct OutSpan {
     pub number: u16,
+    pub kind: OutKind,
     pub begin: Tick,
     pub end: Option<Tick>,
 }
@@ -32,6 +42,7 @@ fn ended(number: u16, moment: Tick, outage: &OutSpan) -> OutSpan
     if is_out_in(number, outage) {
         OutSpan {
             number,
+            kind: outage.kind,
             begin: outage.begin,
             end: Some(moment),
         }

@@ -1,17 +1,23 @@
 //! A picture as a text.
-ghost use Rattle.std.specs.Prelude.{◌≡◌, [], IfOk, OnOk};
-ghost use Rattle.tp_chart.specs.Pictures.{Draws, GoesOn};
+ghost use Rattle.std.specs.Prelude.{◌≡◌, ◌++◌, [], flat_map, map, IfOk, OnOk};
+ghost use Rattle.tp_chart.specs.Bars.{bars_seen};
+ghost use Rattle.tp_chart.specs.Pictures.{Draws, GoesOn, marks_in, placeless, titled_text};
 
-use crate::bars::Bar;
+use crate::bars::{Bar, bars_of};
+use crate::changeovers::put_changeovers;
+use crate::course::Course;
+use crate::deliveries::{Mark, marks_of, put_marks};
 use crate::frame::{AxisFrame, HEAD, ROW, count_rows};
 use crate::head_marks::{put_edges, put_ending};
 use crate::marks::put_bars;
-use crate::rows::put_rows;
+use crate::row::{Row, rows_of};
+use crate::rows::{letters_in, put_rows};
 use crate::scene::Scene;
-use crate::top::{put_millionths, put_top};
+use crate::title::put_title;
+use crate::top::{put_millionths, put_size, put_top};
 use crate::view::{Scope, has_row};
 use std::alloc::{AllocError, Global};
-use tp_base::{Memory, Name};
+use tp_base::{Memory, Name, Tick};
 use tp_machine::{Machine, Names};
 
 /// How many jobs have a colour of their own place.
@@ -38,25 +44,20 @@ fn jobs_of(alloc: Global, scope: &Scope, scene: &Scene, bars: &[Bar]) -> Result<
     Ok(jobs)
 }
 
-/// The letters of the longest label.
-fn letters_of(by_copies: bool, machine: &Machine, scene: &Scene) -> u64 {
+fn letters_of_copies(courses: &[Course]) -> usize {
     let mut letters: usize = 10;
-    if by_copies {
-        for course in scene.courses() {
-            letters = letters.max(course.sheet().job.as_bytes().len().saturating_add(7));
-        }
-    } else {
-        for resource in machine.resources.as_slice() {
-            letters = letters.max(resource.name.as_bytes().len());
-        }
-        for tray in machine.trays.as_slice() {
-            if u32::from(tray.0) < machine.locations.len() {
-                let name = machine.locations.get(tray.0);
-                letters = letters.max(name.as_bytes().len().saturating_add(6));
-            }
-        }
+    for course in courses {
+        letters = letters.max(course.sheet().job.as_bytes().len().saturating_add(7));
     }
-    letters as u64
+    letters
+}
+
+fn letters_of_rows(machine: &Machine, rows: &[Row]) -> usize {
+    let mut letters: usize = 10;
+    for row in rows {
+        letters = letters.max(letters_in(machine, row));
+    }
+    letters
 }
 
 /// The beginning of the group of bars, which are drawn in ticks and rows, as far as they lie in the frame.
@@ -73,11 +74,32 @@ fn put_group(text: &mut String, frame: &AxisFrame) -> Result<(), AllocError> {
     write!(text, ",{ROW}) translate({back},0)\">\n")
 }
 
-/// How a picture is laid out: where its parts stand, and the jobs that have colours.
+/// How a picture is laid out: where its parts stand, its rows, its title, and the jobs that have colours.
 #[derive(Drop)]
 struct Layout {
     frame: AxisFrame,
+    rows: Vec<Row>,
+    title: Vec<u8>,
     jobs: Names,
+}
+
+fn frame_of(
+    scope: &Scope,
+    machine: &Machine,
+    scene: &Scene,
+    rows: &[Row],
+    bars: &[Bar],
+    title: usize,
+) -> AxisFrame
+    ensures { result.scope ≡ scope.now }
+{
+    let letters = if scope.by_copies {
+        letters_of_copies(scene.courses())
+    } else {
+        letters_of_rows(machine, rows)
+    };
+    let count = count_rows(scope, rows, scene);
+    AxisFrame::of(scope, scene, bars, count, letters as u64, title as u64)
 }
 
 fn layout_of(
@@ -85,16 +107,50 @@ fn layout_of(
     scope: &Scope,
     machine: &Machine,
     scene: &Scene,
+    rows: Vec<Row>,
     bars: &[Bar],
-) -> Result<Layout, Memory> {
-    let rows = count_rows(scope, machine, scene);
-    let letters = letters_of(scope.by_copies, machine, scene);
-    let frame = AxisFrame::of(scope, scene, bars, rows, letters);
+) -> Result<Layout, Memory>
+    ensures { IfOk result (λ layout. layout.frame.scope ≡ scope.now) }
+{
     let jobs = jobs_of(alloc, scope, scene, bars)?;
-    Ok(Layout { frame, jobs })
+    let mut title = Vec::new(alloc);
+    put_title(&mut title, scope.first, machine, scene)?;
+    let frame = frame_of(scope, machine, scene, &rows, bars, title.len());
+    Ok(Layout {
+        frame,
+        rows,
+        title,
+        jobs,
+    })
 }
 
-/// What stands before the bars.
+/// What stands before the title.
+fn add_head(out: &mut Vec<u8>, layout: &Layout) -> Result<(), Memory>
+    ensures { OnOk result (GoesOn out.old.items out.new.items) }
+{
+    let mut text = String::new(*out.allocator());
+    put_size(&mut text, &layout.frame, &layout.title)?;
+    out.extend_from_slice(text.as_bytes())?;
+    Ok(())
+}
+
+#[tactic(auto, unfolding(crate::specs::Pictures::titled_text))]
+fn put_titled(
+    out: &mut Vec<u8>,
+    first: Option<Tick>,
+    machine: &Machine,
+    scene: &Scene,
+) -> Result<(), Memory>
+    ensures { OnOk result (out.new.items
+        ≡ out.old.items ++ titled_text first machine.now scene.now) }
+{
+    out.extend_from_slice(b"<title>")?;
+    put_title(out, first, machine, scene)?;
+    out.extend_from_slice(b"</title>\n")?;
+    Ok(())
+}
+
+/// What stands between the title and the bars.
 fn top_of(
     alloc: Global,
     layout: &Layout,
@@ -102,29 +158,13 @@ fn top_of(
     scene: &Scene,
 ) -> Result<String, AllocError> {
     let mut text = String::new(alloc);
-    put_top(&mut text, &layout.frame, scene, &layout.jobs)?;
-    put_rows(&mut text, &layout.frame, machine, scene)?;
+    put_top(&mut text, &layout.frame, &layout.title, &layout.jobs)?;
+    put_rows(&mut text, &layout.frame, machine, &layout.rows, scene)?;
     put_group(&mut text, &layout.frame)?;
     Ok(text)
 }
 
-/// What stands behind the bars: the end of their group, the lines that part them, and the key.
-fn ending_of(
-    alloc: Global,
-    layout: &Layout,
-    machine: &Machine,
-    scene: &Scene,
-    bars: &[Bar],
-) -> Result<String, AllocError> {
-    let mut text = String::new(alloc);
-    text.push_str("</g></svg>\n")?;
-    put_edges(&mut text, &layout.frame, bars)?;
-    put_ending(&mut text, &layout.frame, machine, scene, &layout.jobs)?;
-    Ok(text)
-}
-
 fn add_top(
-    alloc: Global,
     out: &mut Vec<u8>,
     layout: &Layout,
     machine: &Machine,
@@ -132,56 +172,87 @@ fn add_top(
 ) -> Result<(), Memory>
     ensures { OnOk result (GoesOn out.old.items out.new.items) }
 {
-    let top = top_of(alloc, layout, machine, scene)?;
+    let top = top_of(*out.allocator(), layout, machine, scene)?;
     out.extend_from_slice(top.as_bytes())?;
     Ok(())
 }
 
-fn add_ending(
+/// What stands between the bars and the marks: the end of their group, the lines that part them, and the changeovers.
+fn between_of(
     alloc: Global,
-    out: &mut Vec<u8>,
-    layout: &Layout,
+    frame: &AxisFrame,
     machine: &Machine,
-    scene: &Scene,
+    bars: &[Bar],
+) -> Result<String, AllocError> {
+    let mut text = String::new(alloc);
+    text.push_str("</g></svg>\n")?;
+    put_edges(&mut text, frame, bars)?;
+    put_changeovers(alloc, &mut text, frame, machine, bars)?;
+    Ok(text)
+}
+
+fn add_between(
+    out: &mut Vec<u8>,
+    frame: &AxisFrame,
+    machine: &Machine,
     bars: &[Bar],
 ) -> Result<(), Memory>
     ensures { OnOk result (GoesOn out.old.items out.new.items) }
 {
-    let ending = ending_of(alloc, layout, machine, scene, bars)?;
-    out.extend_from_slice(ending.as_bytes())?;
+    let between = between_of(*out.allocator(), frame, machine, bars)?;
+    out.extend_from_slice(between.as_bytes())?;
+    Ok(())
+}
+
+fn add_ending(out: &mut Vec<u8>, frame: &AxisFrame, moment: Tick) -> Result<(), Memory>
+    ensures { OnOk result (GoesOn out.old.items out.new.items) }
+{
+    let mut text = String::new(*out.allocator());
+    put_ending(&mut text, frame, moment)?;
+    out.extend_from_slice(text.as_bytes())?;
     Ok(())
 }
 
 /// Writes the picture in this layout.
 fn add_picture(
-    alloc: Global,
     out: &mut Vec<u8>,
     layout: &Layout,
     machine: &Machine,
     scene: &Scene,
     bars: &[Bar],
+    marks: &[Mark],
 ) -> Result<(), Memory>
-    requires { out.old.items ≡ [] }
-    ensures { OnOk result (Draws bars.now out.new.items) }
+    requires empty { out.old.items ≡ [] }
+    requires bars { bars.now ≡ bars_seen layout.now.frame.scope machine.now scene.now }
+    requires marks { map placeless marks.now
+        ≡ flat_map (marks_in layout.now.frame.scope.first machine.now) scene.now.courses }
+    ensures { OnOk result
+        (Draws layout.now.frame.scope machine.now scene.now out.new.items) }
 {
-    add_top(alloc, out, layout, machine, scene)?;
-    put_bars(out, &layout.jobs, bars)?;
-    add_ending(alloc, out, layout, machine, scene, bars)?;
+    add_head(out, layout)?;
+    put_titled(out, layout.frame.scope.first, machine, scene)?;
+    add_top(out, layout, machine, scene)?;
+    put_bars(out, machine, &layout.jobs, bars)?;
+    add_between(out, &layout.frame, machine, bars)?;
+    put_marks(out, &layout.jobs, marks)?;
+    add_ending(out, &layout.frame, scene.moment())?;
     Ok(())
 }
 
-/// The picture of a schedule with these bars, as SVG.
+/// The picture of a schedule, as SVG.
 pub fn draw(
     alloc: Global,
     scope: &Scope,
     machine: &Machine,
     scene: &Scene,
-    bars: &[Bar],
 ) -> Result<Vec<u8>, Memory>
-    ensures { IfOk result (λ text. Draws bars.now text.items) }
+    ensures { IfOk result (λ text. Draws scope.now machine.now scene.now text.items) }
 {
-    let layout = layout_of(alloc, scope, machine, scene, bars)?;
+    let rows = rows_of(alloc, scope.first, machine, scene.outages())?;
+    let bars = bars_of(alloc, scope, machine, &rows, scene.courses())?;
+    let layout = layout_of(alloc, scope, machine, scene, rows, &bars)?;
+    let marks = marks_of(alloc, &layout.frame, machine, &layout.rows, scene.courses())?;
     let mut text = Vec::new(alloc);
-    add_picture(alloc, &mut text, &layout, machine, scene, bars)?;
+    add_picture(&mut text, &layout, machine, scene, &bars, &marks)?;
     Ok(text)
 }

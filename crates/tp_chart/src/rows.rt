@@ -1,24 +1,53 @@
 //! The rows of a picture: their labels, the axis above them, and the times in which modules were out.
 use crate::frame::{AxisFrame, HEAD, ROW};
-use crate::out_span::OutSpan;
+use crate::out_span::{OutKind, OutSpan};
+use crate::row::Row;
 use crate::scene::Scene;
 use crate::text_pieces::{put_copy, put_name};
 use crate::view::has_row;
 use std::alloc::AllocError;
 use tp_base::Name;
-use tp_machine::{LocId, Machine};
+use tp_machine::{Machine, Names};
 use tp_schedule::SheetName;
-
-/// What stands before the name of a tray, and of a purge tray.
-const TRAY: &str = "tray ";
-
-const PURGE: &str = "purge ";
 
 /// What a row is named by: a kind and a name, or a copy.
 #[derive(Clone, Copy)]
 enum RowName<'a> {
     Named(&'static str, &'a Name),
     Copy(&'a SheetName),
+}
+
+fn kind_of(row: &Row) -> &'static str {
+    match row {
+        Row::Tray(_) => "tray ",
+        Row::Purge(_) => "purge ",
+        _ => "",
+    }
+}
+
+fn name_at(names: &Names, at: usize) -> Option<Name> {
+    match u16::try_from(at) {
+        Ok(at) if u32::from(at) < names.len() => Some(names.get(at)),
+        _ => None,
+    }
+}
+
+/// The name of what a row shows.
+fn name_of(machine: &Machine, row: &Row) -> Option<Name> {
+    match row {
+        Row::Resource(at) => Some(machine.resources.as_slice().get(*at)?.name),
+        Row::Module(at) => name_at(&machine.modules, *at),
+        Row::Tray(loc) => name_at(&machine.locations, usize::from(loc.0)),
+        Row::Purge(loc) => name_at(&machine.locations, usize::from(loc.0)),
+    }
+}
+
+/// How many letters the name of a row has.
+pub(crate) fn letters_in(machine: &Machine, row: &Row) -> usize {
+    match name_of(machine, row) {
+        Some(name) => kind_of(row).len().saturating_add(name.as_bytes().len()),
+        None => 0,
+    }
 }
 
 /// The name of a row at a place.
@@ -72,40 +101,20 @@ fn put_row(
     Ok(())
 }
 
-/// The rows of trays, the first of this number.
-fn put_trays(
-    text: &mut String,
-    frame: &AxisFrame,
-    machine: &Machine,
-    kind: &'static str,
-    row: u64,
-    trays: &[LocId],
-) -> Result<(), AllocError> {
-    let mut row = row;
-    for tray in trays {
-        if u32::from(tray.0) < machine.locations.len() {
-            let name = machine.locations.get(tray.0);
-            put_row(text, frame, row, &RowName::Named(kind, &name))?;
-        }
-        row = row.saturating_add(1);
-    }
-    Ok(())
-}
-
 fn put_machine_rows(
     text: &mut String,
     frame: &AxisFrame,
     machine: &Machine,
+    rows: &[Row],
 ) -> Result<(), AllocError> {
-    let mut row: u64 = 0;
-    for resource in machine.resources.as_slice() {
-        put_row(text, frame, row, &RowName::Named("", &resource.name))?;
-        row = row.saturating_add(1);
+    let mut number: u64 = 0;
+    for row in rows {
+        if let Some(name) = name_of(machine, row) {
+            put_row(text, frame, number, &RowName::Named(kind_of(row), &name))?;
+        }
+        number = number.saturating_add(1);
     }
-    let trays = machine.trays.as_slice();
-    put_trays(text, frame, machine, TRAY, row, trays)?;
-    let row = row.saturating_add(trays.len() as u64);
-    put_trays(text, frame, machine, PURGE, row, machine.purges.as_slice())
+    Ok(())
 }
 
 fn put_copy_rows(text: &mut String, frame: &AxisFrame, scene: &Scene) -> Result<(), AllocError> {
@@ -119,12 +128,51 @@ fn put_copy_rows(text: &mut String, frame: &AxisFrame, scene: &Scene) -> Result<
     Ok(())
 }
 
-/// The grey bands of one outage, on the rows of the module's resources.
-fn put_outage(
+/// Whether the row shows the module or a resource of it.
+fn is_of_module(machine: &Machine, module: usize, row: &Row) -> bool {
+    match row {
+        Row::Resource(at) => match machine.resources.as_slice().get(*at) {
+            Some(resource) => usize::from(resource.module.0) == module,
+            None => false,
+        },
+        Row::Module(at) => *at == module,
+        _ => false,
+    }
+}
+
+fn class_of(kind: OutKind) -> &'static str {
+    match kind {
+        OutKind::Jam => "jam",
+        OutKind::Off => "off",
+        OutKind::Stuck => "stuck",
+        OutKind::Saved => "out",
+    }
+}
+
+/// The title of a band: the module, why it was out, and from when to when.
+fn put_band_title(
+    text: &mut String,
+    machine: &Machine,
+    outage: &OutSpan,
+) -> Result<(), AllocError> {
+    if let Some(name) = name_at(&machine.modules, usize::from(outage.number)) {
+        put_name(text, &name)?;
+    }
+    let kind = class_of(outage.kind);
+    let begin = outage.begin;
+    match outage.end {
+        Some(end) => write!(text, " {kind} {begin} to {end}"),
+        None => write!(text, " {kind} from {begin} on"),
+    }
+}
+
+/// The band of an outage on a row.
+fn put_band(
     text: &mut String,
     frame: &AxisFrame,
     machine: &Machine,
     outage: &OutSpan,
+    y: u64,
 ) -> Result<(), AllocError> {
     let end = match outage.end {
         Some(end) => i64::from(end).min(frame.last),
@@ -133,16 +181,32 @@ fn put_outage(
     let begin = i64::from(outage.begin).max(frame.first);
     let x = frame.x(begin);
     let width = frame.x(end).saturating_sub(x);
-    let mut row: u64 = 0;
-    for resource in machine.resources.as_slice() {
-        if u16::from(resource.module.0) == outage.number && width > 0 {
-            let y = frame.y(row);
-            write!(
-                text,
-                "<rect class=\"out\" x=\"{x}\" y=\"{y}\" width=\"{width}\" height=\"{ROW}\"/>\n"
-            )?;
+    let class = class_of(outage.kind);
+    if width > 0 {
+        write!(
+            text,
+            "<rect class=\"{class}\" x=\"{x}\" y=\"{y}\" width=\"{width}\" height=\"{ROW}\"><title>"
+        )?;
+        put_band_title(text, machine, outage)?;
+        text.push_str("</title></rect>\n")?;
+    }
+    Ok(())
+}
+
+/// The bands of an outage, on the rows of the module and of its resources.
+fn put_outage(
+    text: &mut String,
+    frame: &AxisFrame,
+    machine: &Machine,
+    rows: &[Row],
+    outage: &OutSpan,
+) -> Result<(), AllocError> {
+    let mut number: u64 = 0;
+    for row in rows {
+        if is_of_module(machine, usize::from(outage.number), row) {
+            put_band(text, frame, machine, outage, frame.y(number))?;
         }
-        row = row.saturating_add(1);
+        number = number.saturating_add(1);
     }
     Ok(())
 }
@@ -174,16 +238,17 @@ pub(crate) fn put_rows(
     text: &mut String,
     frame: &AxisFrame,
     machine: &Machine,
+    rows: &[Row],
     scene: &Scene,
 ) -> Result<(), AllocError> {
     if frame.scope.by_copies {
         put_copy_rows(text, frame, scene)?;
         return put_axis(text, frame);
     }
-    put_machine_rows(text, frame, machine)?;
+    put_machine_rows(text, frame, machine, rows)?;
     put_axis(text, frame)?;
     for outage in scene.outages() {
-        put_outage(text, frame, machine, outage)?;
+        put_outage(text, frame, machine, rows, outage)?;
     }
     Ok(())
 }

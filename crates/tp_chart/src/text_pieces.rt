@@ -3,12 +3,16 @@ use std::alloc::AllocError;
 use tp_base::Name;
 use tp_schedule::SheetName;
 
-/// Writes a name. It needs no escape: no byte of a name has a meaning in SVG.
-pub(crate) fn put_name(text: &mut String, name: &Name) -> Result<(), AllocError> {
-    for byte in name.as_bytes() {
+pub(crate) fn put_bytes(text: &mut String, bytes: &[u8]) -> Result<(), AllocError> {
+    for byte in bytes {
         text.push(char::from(*byte))?;
     }
     Ok(())
+}
+
+/// Writes a name. It needs no escape: no byte of a name has a meaning in SVG.
+pub(crate) fn put_name(text: &mut String, name: &Name) -> Result<(), AllocError> {
+    put_bytes(text, name.as_bytes())
 }
 
 /// Writes a copy: its job, its sheet and its number, with dots between.

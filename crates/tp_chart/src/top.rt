@@ -1,15 +1,15 @@
-//! The top of a picture: its size and colours, its title, and the key.
+//! The top of a picture: its size and colours, and the key.
 use crate::frame::{AxisFrame, ROW};
-use crate::scene::Scene;
-use crate::text_pieces::put_name;
+use crate::text_pieces::{put_bytes, put_name};
 use std::alloc::AllocError;
 use tp_machine::Names;
 
 /// How many colours there are. A job more has the first one again.
 pub(crate) const COLOURS: usize = 8;
 
+/// A colour-blind eye can tell them apart, on white and on black.
 const PALETTE: [&str; COLOURS] = [
-    "#3b82c4", "#d9822b", "#3f9f6b", "#c4507a", "#8a6fd1", "#9c8a1e", "#2a9d9d", "#b5533c",
+    "#0072b2", "#e69f00", "#009e73", "#cc79a7", "#56b4e9", "#d55e00", "#d9cb2e", "#993333",
 ];
 
 /// How many jobs the key names.
@@ -17,11 +17,20 @@ const NAMED: usize = 8;
 
 const STYLE: &str = "<style>
 svg{font:12px ui-monospace,Menlo,Consolas,'DejaVu Sans Mono',monospace}
-.back{fill:#fff}.ink{fill:#1f2328}.faint{fill:#636c76}.stripe{fill:#f4f6f8}.out{fill:#8b949e;fill-opacity:.4}
+.back{fill:#fff}.ink{fill:#1f2328}.faint{fill:#636c76}.stripe{fill:#f4f6f8}
+.off{fill:#8b949e;fill-opacity:.4}.out{fill:#8b949e;fill-opacity:.25}.jam{fill:url(#jam)}.stuck{fill:url(#stuck)}.dim{fill:#8b949e}
 .grid{stroke:#d0d7de}.now{stroke:#1f2328;stroke-dasharray:4 3}.edge{stroke:#fff;stroke-width:.8}
-.cross{fill:url(#x)}.x{fill:none;stroke:#1f2328;stroke-width:1.3}
+.cross{fill:url(#x);pointer-events:none}.x{fill:none;stroke:#1f2328;stroke-width:1.3}
+.mode{fill:#1f2328;pointer-events:none}.over{fill:none;stroke:#636c76;stroke-width:.8;pointer-events:all}
 @media (prefers-color-scheme:dark){.back{fill:#0d1117}.ink{fill:#e6edf3}.faint{fill:#9198a1}.stripe{fill:#151b23}
-.grid{stroke:#30363d}.now{stroke:#e6edf3}.edge{stroke:#0d1117}.x{stroke:#e6edf3}}
+.grid{stroke:#30363d}.now{stroke:#e6edf3}.edge{stroke:#0d1117}.x{stroke:#e6edf3}.mode{fill:#e6edf3}
+.over{stroke:#9198a1}}
+";
+
+/// The patterns of bands of modules that jammed, and that are stuck.
+const OUTS: &str =
+    "<pattern id=\"jam\" width=\"6\" height=\"6\" patternUnits=\"userSpaceOnUse\" patternTransform=\"rotate(-45)\"><rect class=\"off\" width=\"6\" height=\"6\"/><rect class=\"dim\" width=\"2\" height=\"6\"/></pattern>
+<pattern id=\"stuck\" width=\"6\" height=\"6\" patternUnits=\"userSpaceOnUse\"><rect class=\"off\" width=\"6\" height=\"6\"/><circle class=\"dim\" cx=\"3\" cy=\"3\" r=\"1.6\"/></pattern>
 ";
 
 /// A number of millionths, as a decimal.
@@ -67,9 +76,14 @@ fn put_colours(text: &mut String) -> Result<(), AllocError> {
     text.push_str(STYLE)?;
     for id in 0..COLOURS {
         let colour = PALETTE[id];
-        write!(text, ".j{id}{{fill:{colour}}}.p{id}{{fill:url(#h{id})}}\n")?;
+        write!(
+            text,
+            ".j{id}{{fill:{colour}}}.p{id}{{fill:url(#h{id})}}.d{id}{{fill:none;stroke:{colour};stroke-width:2;pointer-events:all}}\n"
+        )?;
     }
-    text.push_str(".k{fill:url(#h8)}.r{fill:#8b949e}\n</style>\n<defs>\n")
+    text.push_str(
+        ".k{fill:url(#h8)}.r{fill:#8b949e}.d{fill:none;stroke:#8b949e;stroke-width:2}\n</style>\n<defs>\n",
+    )
 }
 
 fn put_hatches(text: &mut String, scale: u64) -> Result<(), AllocError> {
@@ -78,16 +92,24 @@ fn put_hatches(text: &mut String, scale: u64) -> Result<(), AllocError> {
     }
     put_hatch(text, COLOURS, "#8b949e", 1_000_000, 1)?;
     put_cross(text, scale)?;
+    text.push_str(OUTS)?;
     text.push_str("</defs>\n")
 }
 
-fn put_size(text: &mut String, frame: &AxisFrame) -> Result<(), AllocError> {
+/// The beginning of the picture: its size, and its title as its label.
+pub(crate) fn put_size(
+    text: &mut String,
+    frame: &AxisFrame,
+    title: &[u8],
+) -> Result<(), AllocError> {
     let width = frame.width();
     let height = frame.bottom().saturating_add(ROW);
     write!(
         text,
-        "<svg xmlns=\"http://www.w3.org/2000/svg\" width=\"{width}\" height=\"{height}\" viewBox=\"0 0 {width} {height}\">\n"
-    )
+        "<svg xmlns=\"http://www.w3.org/2000/svg\" width=\"{width}\" height=\"{height}\" viewBox=\"0 0 {width} {height}\" role=\"img\" aria-label=\""
+    )?;
+    put_bytes(text, title)?;
+    text.push_str("\">\n")
 }
 
 /// The names of the first jobs, each in its colour.
@@ -109,6 +131,9 @@ fn put_jobs(text: &mut String, jobs: &Names) -> Result<(), AllocError> {
             .saturating_add(letters.saturating_mul(8))
             .saturating_add(16);
     }
+    if count == 0 {
+        text.push_str("<text class=\"faint\" x=\"16\" y=\"46\">no sheet is drawn</text>\n")?;
+    }
     let more = (jobs.len() as usize).saturating_sub(count);
     if more > 0 {
         write!(
@@ -126,36 +151,28 @@ fn put_key(text: &mut String) -> Result<(), AllocError> {
 <rect class=\"k\" x=\"118\" y=\"56\" width=\"18\" height=\"12\"/><text class=\"faint\" x=\"142\" y=\"66\">planned</text>
 <rect class=\"r\" x=\"212\" y=\"56\" width=\"18\" height=\"12\"/><path class=\"x\" d=\"M212 56l18 12m0-12l-18 12\"/><text class=\"faint\" x=\"236\" y=\"66\">lost</text>
 <path class=\"r\" d=\"M291 56l6 6-6 6-6-6z\"/><text class=\"faint\" x=\"304\" y=\"66\">delivered</text>
-<rect class=\"out\" x=\"388\" y=\"56\" width=\"18\" height=\"12\"/><text class=\"faint\" x=\"412\" y=\"66\">module out</text>\n",
+<path class=\"d\" d=\"M395 56l6 6-6 6-6-6z\"/><text class=\"faint\" x=\"408\" y=\"66\">purged</text>
+<rect class=\"jam\" x=\"472\" y=\"56\" width=\"18\" height=\"12\"/><text class=\"faint\" x=\"496\" y=\"66\">jam</text>
+<rect class=\"off\" x=\"536\" y=\"56\" width=\"18\" height=\"12\"/><text class=\"faint\" x=\"560\" y=\"66\">off</text>
+<rect class=\"stuck\" x=\"600\" y=\"56\" width=\"18\" height=\"12\"/><text class=\"faint\" x=\"624\" y=\"66\">stuck</text>
+<path class=\"over\" d=\"M680 56h18v12h-18z\"/><text class=\"faint\" x=\"704\" y=\"66\">changeover</text>
+<rect class=\"r\" x=\"800\" y=\"56\" width=\"18\" height=\"12\"/><rect class=\"mode\" x=\"800\" y=\"65\" width=\"18\" height=\"3\"/><text class=\"faint\" x=\"824\" y=\"66\">mode above 0</text>\n",
     )
 }
 
-/// The moment, and the first tick of a picture that does not show all.
-fn put_title(text: &mut String, frame: &AxisFrame, scene: &Scene) -> Result<(), AllocError> {
-    let moment = scene.moment();
-    write!(text, "The schedule at {moment}")?;
-    if let Some(first) = frame.scope.first {
-        write!(text, ", from {first} on")?;
-    }
-    Ok(())
-}
-
+/// What stands between the title and the rows: the colours, the title as a text, and the key.
 pub(crate) fn put_top(
     text: &mut String,
     frame: &AxisFrame,
-    scene: &Scene,
+    title: &[u8],
     jobs: &Names,
 ) -> Result<(), AllocError> {
-    put_size(text, frame)?;
-    text.push_str("<title>")?;
-    put_title(text, frame, scene)?;
-    text.push_str("</title>\n")?;
     put_colours(text)?;
     put_hatches(text, frame.scale)?;
     text.push_str(
         "<rect class=\"back\" width=\"100%\" height=\"100%\"/>\n<text class=\"ink\" x=\"16\" y=\"24\" font-size=\"15\" font-weight=\"bold\">",
     )?;
-    put_title(text, frame, scene)?;
+    put_bytes(text, title)?;
     text.push_str("</text>\n")?;
     put_jobs(text, jobs)?;
     put_key(text)

@@ -1,7 +1,7 @@
 //! What the words of the command line ask for.
 ghost use Rattle.std.specs.Prelude.{◌≡◌, IfOk, IfErr, [], Some, None, false, length, map, option_map, string_bytes};
 ghost use Rattle.clap.specs.Words.{app_of, found_of, fault_of, matches_of, rows_of, rule_of};
-ghost use Rattle.tp_chart.specs.Words.{asked_at, asked_in, bare, chart, chart_asked, option_rule, seen, sheets_rule, shown, tick_of, values_in, values_of, view_in, view_of};
+ghost use Rattle.tp_chart.specs.Words.{asked_at, asked_in, bare, chart, chart_asked, flag_rule, is_of_farm, option_rule, seen, shown, tick_of, values_in, values_of, view_in, view_of};
 
 use crate::view::View;
 use clap::{Arg, ArgAction, ArgMatches, Command};
@@ -9,11 +9,14 @@ use std::alloc::{AllocError, Global};
 use tp_base::Tick;
 use tp_words::read_number;
 
-/// What the words ask for: the picture of a schedule on the machine of this name.
+/// What the words ask for: the picture of a schedule on the machine of this name, alone or in a page, from all lines or from
+/// those of the machine of a farm with this number.
 #[derive(Clone, Copy, Debug, PartialEq, Eq)]
 pub struct ChartRequest<'a> {
     pub machine: &'a str,
     pub view: View,
+    pub is_page: bool,
+    pub number: Option<u32>,
 }
 
 /// Why the words ask for nothing.
@@ -30,12 +33,12 @@ fn option<'a>(alloc: Global, id: &'static str) -> Arg<'a>
     Arg::new(alloc, id).long(id).action(ArgAction::Append)
 }
 
-fn sheets<'a>(alloc: Global) -> Arg<'a>
-    ensures rule { rule_of result ≡ sheets_rule }
+fn flag<'a>(alloc: Global, id: &'static str) -> Arg<'a>
+    ensures rule { rule_of result ≡ flag_rule id.now }
     ensures local { result.global ≡ false }
 {
-    Arg::new(alloc, "sheets")
-        .long("sheets")
+    Arg::new(alloc, id)
+        .long(id)
         .action(ArgAction::Append)
         .num_args(0usize)
         .default_missing_value("set")
@@ -49,15 +52,17 @@ fn bare<'a>(alloc: Global) -> Command<'a>
         .disable_help_flag(true)
 }
 
-/// Words in their order, a flag, and options with a value. How many there are is looked at later.
+/// Words in their order, flags, and options with a value. How many there are is counted later.
 fn command<'a>(alloc: Global) -> Result<Command<'a>, AllocError>
     ensures { IfOk result (λ c. app_of c ≡ chart) }
 {
     bare(alloc)
         .arg(Arg::new(alloc, "words").action(ArgAction::Append))?
-        .arg(sheets(alloc))?
+        .arg(flag(alloc, "sheets"))?
+        .arg(flag(alloc, "html"))?
         .arg(option(alloc, "from"))?
-        .arg(option(alloc, "at"))
+        .arg(option(alloc, "at"))?
+        .arg(option(alloc, "machine"))
 }
 
 fn match_words<'a>(alloc: Global, words: &'a [String]) -> Result<ArgMatches<'a>, ChartWordsFault>
@@ -138,15 +143,39 @@ fn view_of(sheets: usize, from: Option<Option<Tick>>, until: Option<Option<Tick>
     })
 }
 
-/// What is asked for by the words that are no options, to be shown so.
-fn ask<'a>(places: &[&'a str], view: Option<View>) -> Option<ChartRequest<'a>>
-    ensures { option_map seen result ≡ asked_at (shown places.now) view }
+fn is_of_farm(number: Option<u32>) -> bool
+    ensures { result ≡ is_of_farm number }
+{
+    match number {
+        Some(number) => 1 <= number && number <= 8,
+        None => true,
+    }
+}
+
+/// What is asked for by the words that are no options, with so many flags for a page, from this machine's lines.
+fn ask<'a>(
+    places: &[&'a str],
+    view: Option<View>,
+    pages: usize,
+    number: Option<Option<u32>>,
+) -> Option<ChartRequest<'a>>
+    ensures { option_map seen result ≡ asked_at (shown places.now) view pages number }
 {
     let [machine] = places else {
         return None;
     };
-    let view = view?;
-    Some(ChartRequest { machine, view })
+    let (Some(view), Some(number)) = (view, number) else {
+        return None;
+    };
+    if pages > 1 || !is_of_farm(number) {
+        return None;
+    }
+    Some(ChartRequest {
+        machine,
+        view,
+        is_page: pages == 1,
+        number,
+    })
 }
 
 fn view_in(matches: &ArgMatches<'_>) -> Option<View>
@@ -164,7 +193,12 @@ fn asked<'a>(matches: &ArgMatches<'a>) -> Option<ChartRequest<'a>>
     ensures { option_map seen result ≡ asked_in (rows_of (found_of matches.now)) }
 {
     let places = values(matches, "words")?;
-    ask(places, view_in(matches))
+    ask(
+        places,
+        view_in(matches),
+        count(matches, "html"),
+        tick(matches, "machine"),
+    )
 }
 
 /// What the words ask for, the program's own name left out. `Usage` comes exactly where they are not of the form.

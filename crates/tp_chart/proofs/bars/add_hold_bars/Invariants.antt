@@ -4,4 +4,4 @@ use Rattle.tp_chart.specs.Bars.{hold_bars_in}
 use Rattle.tp_chart.proofs.bars.add_hold_bars.Given as goal
 
 abbrev pub invariant-loop-run : goal.invariant-loop-run
-invariant-loop-run l = l.bars.items ≡ l.fn.bars.items ++ flat_map (hold_bars_in l.first l.machine l.course) (take l.run-index l.runs)
+invariant-loop-run l = l.bars.items ≡ l.fn.bars.items ++ flat_map (hold_bars_in l.first l.machine l.rows l.course) (take l.run-index l.runs)

@@ -7,6 +7,6 @@ decreases-courses l = length l.rest
 
 abbrev pub invariant-courses : goal.invariant-courses
 invariant-courses l = record {
-  so_far : l.bars.items ++ bars_from l.scope l.machine l.row l.rest ≡ bars_from l.scope l.machine 0 l.courses;
+  so_far : l.bars.items ++ bars_from l.scope l.machine l.rows l.row l.rest ≡ bars_from l.scope l.machine l.rows 0 l.courses;
   counted : l.row + length l.rest ≤ length l.courses;
 }

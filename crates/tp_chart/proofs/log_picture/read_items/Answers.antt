@@ -4,4 +4,4 @@ use Rattle.tp_words.proofs.Texts.{short_lines}
 use Rattle.tp_chart.proofs.log_picture.read_items.Goals as goal
 
 pub read_log-requires : goal.read_log-requires
-read_log-requires g c = rw c.deref.ensures.value (short_lines c.in-Ok.text.items (omega (arith, c.in-Ok.ensures.fits)))
+read_log-requires g c = rw c.deref.ensures.value (short_lines c.in-Ok.log.items (omega (arith, c.in-Ok.ensures.fits)))
